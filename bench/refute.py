@@ -4,7 +4,11 @@
 It takes scripts that tests/firmware/scripts.py writes and that have a certificate, without their numbers (with --numbers: as
 they are), and changes one to three places of each. COUNT (100) of those that `certify` then refuses are handed to `sdv refute`,
 with two seconds for each. The same words make the same scripts. Scripts of which nothing was found stay in /tmp/sdv-refute.
+
+With --capacity it takes each accepted script of examples/ in place of these, and raises one of its block addresses past the least
+capacity that passes the script's tests. It tells how long `refute` takes of each, and what it finds.
 """
+import glob
 import os
 import random
 import re
@@ -97,7 +101,48 @@ def refused(folder, seed, numbers):
                 yield path, text
 
 
+def least_capacity(text):
+    """The fewest blocks of a card with which the script goes on. A CSD tells the capacity of an SD card in steps of four blocks."""
+    tested = max([int(number) for number in re.findall(r"\bif \w+ >= (\d+)", text)], default=1)
+    return tested if "card emmc" in text else -(-tested // 4) * 4
+
+
+def raised(text):
+    """The script with one address raised so that the least card has all its blocks but one, for each address that is a number."""
+    for site in re.finditer(r"\bat (?:by \w+|block|byte) (\d+)(?: count (\d+))?", text):
+        first = least_capacity(text) - int(site[2] or 1) + 1
+        if first > int(site[1]):
+            yield site[0], first, text[:site.start(1)] + str(first) + text[site.end(1):]
+
+
+def capacities():
+    """Tries `refute` of each accepted example with an address raised."""
+    found, times = 0, []
+    for path in sorted(glob.glob(os.path.join(TOP, "examples", "**", "*.sdv"), recursive=True)):
+        if answer("certify", path).returncode != 0:
+            continue
+        with open(path, encoding="ascii") as file:
+            text = file.read()
+        for site, first, script in raised(text):
+            os.makedirs(KEPT, exist_ok=True)
+            kept = os.path.join(KEPT, "raised.sdv")
+            with open(kept, "w", encoding="ascii") as file:
+                file.write(script)
+            start = time.monotonic()
+            try:
+                said = answer("refute", kept)
+                end = said.stdout.split("wrong\n")[1].split("\n")[0] if said.stdout.startswith("mishaps") else (said.stdout or said.stderr).split("\n")[0]
+                found += said.stdout.startswith("mishaps")
+            except subprocess.TimeoutExpired:
+                end = "too long"
+            times.append(time.monotonic() - start)
+            print(f"{times[-1]:.2f} s  {os.path.relpath(path, TOP)}: `{site}` from block {first}: {end}", flush=True)
+    print(f"{found} of {len(times)} found, longest {max(times):.2f} s")
+
+
 def main():
+    if "--capacity" in sys.argv:
+        return capacities()
     words = [word for word in sys.argv[1:] if word != "--numbers"]
     count, seed = int(words[0]) if words else 100, int(words[1]) if len(words) > 1 else 1
     tally, times = {"refuted": 0, "path told": 0, "no path": 0, "nothing found": 0, "too long": 0}, []

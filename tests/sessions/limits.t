@@ -121,7 +121,7 @@ Numbers beyond the limits, and images that do not fit.
 
 The end of a search in which no small card shows what is wrong: the script sends CMD12 too early only beside a great card.
 
-  $ sed 's/^done/if cap >= 1048576 { send 13 { else { } } send 12 { else { } } } else { }\ndone/' $up > great.sdv; sdv refute great.sdv
+  $ sed 's/^done/if cap >= 4194304 { send 13 { else { } } send 12 { else { } } } else { }\ndone/' $up > great.sdv; sdv refute great.sdv
   no run beside a simulated card was found, but the greatest card with byte addresses breaks the script:
   refused Illegal point 24 shape 0000000000002804
   line 14, point 24: CMD12, if the card is

@@ -18,45 +18,34 @@ A run that refutes a script: without a mishap, and with one.
   wrong done
   $ sdv refute $EXAMPLES/hosts/linux_read.sdv --card card --schedule schedule
   mishaps
-  none
+  line 16: the answer to CMD41 is lost
   wrong
-  line 33: CMD17 comes to a card in tran state whose block length is not 512 bytes
-  card over new:512
+  line 14: CMD55 comes to a card in ready state, where it is not legal
+  card over new:1024
   card sd
   version 2
-  unit byte
-  csize 63
-  cmult 0
-  rbl 10
+  unit block
+  csize 0
   rca 4660
   schedule
-  
+  0002
   trace
   CMD0 00000000 -
   CMD8 000001aa R7 000001aa
   CMD55 00000000 R1 00000120
-  CMD41 40ff8000 R3 80ff8000
-  CMD2 00000000 R2 005858534456202010000000010181
-  CMD3 00000000 R6 12340500
-  CMD9 12340000 R2 00000000000a000fc0000000000000
-  CMD7 12340000 R1 00000700
-  CMD55 12340000 R1 00000920
-  CMD51 00000000 R1 00000920
-  REG 8 ok
-  CMD55 12340000 R1 00000920
-  CMD6 00000002 R1 00000920
-  wrong CMD17 00001000
+  CMD41 40ff8000 timeout
+  wrong CMD55 00000000
   $ cat card schedule
   card sd
   version 2
-  unit byte
-  csize 63
-  cmult 0
-  rbl 10
+  unit block
+  csize 0
   rca 4660
-  $ sdv try $EXAMPLES/hosts/linux_read.sdv card new:512 schedule | tail -n 1
-  line 33: CMD17 comes to a card in tran state whose block length is not 512 bytes
-  wrong CMD17 00001000
+  0002
+  (no line feed)
+  $ sdv try $EXAMPLES/hosts/linux_read.sdv card new:1024 schedule | tail -n 1
+  line 14: CMD55 comes to a card in ready state, where it is not legal
+  wrong CMD55 00000000
 
 Each refused script of the examples. `try` shows the same run.
 
@@ -252,7 +241,7 @@ What breaks these is an answer that is lost, or shows an error, while the card p
   wrong CMD16 00000200
   event 12: lost while busy
 
-What breaks these is one of the least cards: they read block 8, or block 2, without a test of the capacity.
+What breaks these is a card that is too small for their address: they read block 8, or block 2, without a test of the capacity.
 
   $ read='send 17 at by hc N { clean { recv { ok { } else { fault cut } } } else { fault unread } }'
   $ for kind in sd emmc; do sed "s/^done$/$(echo "$read" | sed s/N/8/)\ndone/" $EXAMPLES/${kind}_bring_up.sdv > eighth.sdv; sdv refute eighth.sdv --card card | sed -n '/^mishaps/,/^schedule/p;/^wrong CMD/p'; done
@@ -260,11 +249,11 @@ What breaks these is one of the least cards: they read block 8, or block 2, with
   none
   wrong
   line 14: CMD17 comes to a card in tran state, which has not so many blocks
-  card over new:4
+  card over new:8
   card sd
   version 2
   unit byte
-  csize 0
+  csize 1
   cmult 0
   rbl 9
   rca 4660
@@ -274,30 +263,110 @@ What breaks these is one of the least cards: they read block 8, or block 2, with
   none
   wrong
   line 13: CMD17 comes to a card in tran state, which has not so many blocks
-  card over new:516
+  card over new:520
   card emmc
-  unit byte
-  csize 0
-  cmult 0
-  rbl 9
+  unit block
+  sectors 8
   boot 1
   schedule
-  wrong CMD17 00001000
-  $ sdv try eighth.sdv card new:516 2>&1 | tail -n 2
-  wrong CMD17 00001000
+  wrong CMD17 00000008
+  $ sdv try eighth.sdv card new:520 2>&1 | tail -n 2
+  wrong CMD17 00000008
   line 13: CMD17 comes to a card in tran state, which has not so many blocks
   $ sed "s/^done$/$(echo "$read" | sed s/N/2/)\ndone/" $EXAMPLES/emmc_bring_up.sdv > second.sdv; sdv refute second.sdv | sed -n '/^mishaps/,/^schedule/p;/^wrong CMD/p'
   mishaps
   none
   wrong
   line 13: CMD17 comes to a card in tran state, which has not so many blocks
-  card over new:513
+  card over new:514
   card emmc
   unit block
-  sectors 1
+  sectors 2
   boot 1
   schedule
   wrong CMD17 00000002
+
+What breaks these is a card of exactly the capacity that they test: an address lies a block past it.
+
+  $ for change in 's/hc 8 count 8/hc 9 count 8/ production/sd_read_many' 's/hc 15/hc 16/ production/emmc_erase_range' 's/hc 255/hc 256/ emmc_boot_read' 's/hc 8/hc 16/ sd_erase'; do
+  >   sed "${change% *}" $EXAMPLES/${change##* }.sdv | sdv refute - --card card | sed -n '/^mishaps/,/^card over/p'; tail -n +3 card
+  > done
+  mishaps
+  none
+  wrong
+  line 19: CMD18 comes to a card in tran state, which has not so many blocks
+  card over new:16
+  unit byte
+  csize 3
+  cmult 0
+  rbl 9
+  rca 4660
+  mishaps
+  none
+  wrong
+  line 19: CMD36 comes to a card in tran state, which has not so many blocks
+  card over new:528
+  sectors 16
+  boot 1
+  mishaps
+  none
+  wrong
+  line 21: CMD17 comes to a card in tran state, which has not so many blocks
+  card over new:1536
+  sectors 1024
+  boot 1
+  mishaps
+  none
+  wrong
+  line 15: CMD32 comes to a card in tran state, which has not so many blocks
+  card over new:16
+  unit byte
+  csize 3
+  cmult 0
+  rbl 9
+  rca 4660
+
+The same where the test is of a number that was taken from the capacity, or where the address is in a variable; and of a greater capacity, as a card with block addresses has it.
+
+  $ for test in 'let n = cap - 8 if n >= 92 { READ 100 } else { }' 'let n = 90 if cap >= 100 { READ n + 10 } else { }' 'if cap < 4096 { fault small } else { READ 4096 }'; do
+  >   (sed '/^done$/d; s/^nums cap/nums cap n/' $EXAMPLES/sd_bring_up.sdv; echo "$test done" | sed "s/READ \([^}]*\) }/$(echo "$read" | sed 's/N/\\1/') }/") | sdv refute - | sed -n '/^wrong/,/^rca/p' | sed '1d;/^card sd/d;/^version/d;/^rca/d'
+  > done
+  line 14: CMD17 comes to a card in tran state, which has not so many blocks
+  card over new:100
+  unit byte
+  csize 24
+  cmult 0
+  rbl 9
+  wrong CMD17 0000c800
+  line 14: CMD17 comes to a card in tran state, which has not so many blocks
+  card over new:100
+  unit byte
+  csize 24
+  cmult 0
+  rbl 9
+  wrong CMD17 0000c800
+  line 14: CMD17 comes to a card in tran state, which has not so many blocks
+  card over new:4096
+  unit block
+  csize 3
+  wrong CMD17 00001000
+
+What breaks this one is a card whose block length is not 512.
+
+  $ sed '/^send 16/d' $EXAMPLES/sd_write_poll.sdv | sdv refute - | sed -n '/^mishaps/,/^schedule/p'
+  mishaps
+  none
+  wrong
+  line 14: CMD24 comes to a card in tran state whose block length is not 512 bytes
+  card over new:512
+  card sd
+  version 2
+  unit byte
+  csize 63
+  cmult 0
+  rbl 10
+  rca 4660
+  schedule
 
 With a test no card breaks it.
 

@@ -1,6 +1,6 @@
 -- Searches and sweeps that were not made, and what they left.
 use Rattle.std.proofs.Common.{◌≡◌, ◌∙◌, refl, sym, ap, subst, inl, inr, true, false, Some, None, ℕ, List, Option, Result, Ok, Err, IfErr, IfOk, IsErrAnd, option_map}
-use Rattle.std.specs.Prelude.{◌≢◌, Bool, IfSome, is_some, if◌then◌else◌}
+use Rattle.std.specs.Prelude.{◌≢◌, Bool, IfSome, is_some, if◌then◌else◌, string_bytes}
 use Rattle.std.specs.Borrow.{Bor}
 use Rattle.clap.specs.Words.{Text}
 use Rattle.sdv_card.specs.Card.{Block}
@@ -109,7 +109,7 @@ module _ (files : Files) (names : RefuteNames) (script : Text) where
 
   module _ (run : Refutation) (is : IsRefutation script run) where
     description_lost : (name : Option (Bor Text)) → names.description ≡ option_map (λ (file : Bor Text). file.now) name → (fault : Fault)
-        → LeavesFault files name run.card.now fault → (known : Option (List ℕ)) → told_ends (Some fault) known known
+        → LeavesFault files name (string_bytes run.card) fault → (known : Option (List ℕ)) → told_ends (Some fault) known known
     description_lost None same fault leaves known = absurd leaves
     description_lost (Some file) same fault leaves known =
         subst (λ (f : Fault). told_ends (Some f) known known) (sym leaves.0)
@@ -123,7 +123,7 @@ module _ (files : Files) (names : RefuteNames) (script : Text) where
         (record { run = run; refutes = is; lost = inr (same, leaves.1) }, keeps_same known)
 
     pub description_fails : {T : Type 0} (name : Option (Bor Text)) → names.description ≡ option_map (λ (file : Bor Text). file.now) name → (fault : Fault)
-        → LeavesFault files name run.card.now fault → (known : Option (List ℕ)) → (r : Result T Fault) → IsErrAnd r (λ f. f ≡ fault)
+        → LeavesFault files name (string_bytes run.card) fault → (known : Option (List ℕ)) → (r : Result T Fault) → IsErrAnd r (λ f. f ≡ fault)
         → told_ends (outcome_of r) known known
     description_fails name same fault leaves known (Ok x) e = absurd e
     description_fails name same fault leaves known (Err f) e = rw e (description_lost name same fault leaves known)
@@ -134,7 +134,7 @@ module _ (files : Files) (names : RefuteNames) (script : Text) where
     schedule_fails name same fault leaves known (Ok x) e = absurd e
     schedule_fails name same fault leaves known (Err f) e = rw e (schedule_lost name same fault leaves known)
 
-    pub told : (text : Text) → IsReport run text → IsLeft files names.description run.card.now
+    pub told : (text : Text) → IsReport run text → IsLeft files names.description (string_bytes run.card)
         → IsLeft files names.schedule (schedule_text run.schedule.items) → (outcome : Option Fault) (before after : Option (List ℕ))
         → PrintsText text outcome before after → told_ends outcome before after
     told text report description schedule outcome before after printed =

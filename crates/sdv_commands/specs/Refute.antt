@@ -1,6 +1,6 @@
 -- `refute SCRIPT [--card FILE] [--schedule FILE]`: a run that refutes the script of a file, with its card and its schedule in
 -- two files, neither of which is that of the script; or a path of the state tables.
-use Rattle.std.specs.Prelude.{◌≡◌, ◌⊎◌, ◌||◌, ℕ, Bool, true, false, is_some, not, List, [], ◌∷◌, Option, Some, None, Result, Ok, Err}
+use Rattle.std.specs.Prelude.{◌≡◌, ◌⊎◌, ◌||◌, ℕ, Bool, true, false, is_some, not, List, [], ◌∷◌, Option, Some, None, Result, Ok, Err, string_bytes}
 use Rattle.clap.specs.Words.{Text}
 use Rattle.sdv_check.specs.Verified.{IsNoScript}
 use Rattle.sdv_paths.specs.Answered.{IsUnbreakable, IsUncertifiedText}
@@ -32,7 +32,7 @@ pub record IsToldRun (files : Files) (names : RefuteNames) (script text : Text) 
   pub refutes : IsRefutation script run
   pub refused : IsRefused script
   pub told : IsReport run text
-  pub description : IsLeft files names.description run.card.now
+  pub description : IsLeft files names.description (string_bytes run.card)
   pub schedule : IsLeft files names.schedule (schedule_text run.schedule.items)
 
 -- a file is named for the card or for the schedule
@@ -53,7 +53,7 @@ IsTold files names script text = IsToldRun files names script text ⊎ IsToldPat
 pub record IsUnwritten (files : Files) (names : RefuteNames) (script file : Text) : Type 0 where
   pub run : Refutation
   pub refutes : IsRefutation script run
-  pub lost : ((names.description ≡ Some file) × LosesFile files file run.card.now)
+  pub lost : ((names.description ≡ Some file) × LosesFile files file (string_bytes run.card))
       ⊎ ((names.schedule ≡ Some file) × LosesFile files file (schedule_text run.schedule.items))
 
 -- a card of the state tables breaks the script, and a file is named, which could not be written of its path

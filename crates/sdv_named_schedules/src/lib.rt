@@ -19,6 +19,7 @@ mod naming;
 mod reading;
 mod writing;
 
+pub use blank::BlankImage;
 pub use fault::ScheduleFault;
 pub use finding::{Beside, codes_by_name};
 pub use naming::{EventName, NamedMishap, SeenEvent, named_codes};

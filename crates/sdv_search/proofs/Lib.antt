@@ -1,4 +1,3 @@
 pub mod RefutedLaws
 pub mod SweptLaws
 pub mod TableLaws
-pub mod ZeroLaws

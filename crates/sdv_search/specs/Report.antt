@@ -1,6 +1,6 @@
 -- WHAT IS TOLD of a run that refutes a script: first words for its mishaps and for why it stops, then its card, its schedule
 -- and its trace.
-use Rattle.std.specs.Prelude.{◌≡◌, ℕ, List, [], ◌++◌, codes, decimal, if◌then◌else◌}
+use Rattle.std.specs.Prelude.{◌≡◌, ℕ, List, [], ◌++◌, codes, decimal, if◌then◌else◌, string_bytes}
 use Rattle.sdv_named_schedules.specs.Writing.{has_digits, schedule_text}
 use Rattle.sdv_search.specs.declared.refuting.Refutation.{Refutation}
 
@@ -16,7 +16,7 @@ front before back = front ++ back
 abbrev pub report_text : (words schedule : List ℕ) → Refutation → List ℕ
 report_text words schedule r =
     words
-    before (codes "card over new:" ++ (decimal r.blocks ++ codes "\n")) before r.card.now
+    before (codes "card over new:" ++ (decimal r.blocks ++ codes "\n")) before string_bytes r.card
     before codes "schedule\n" before schedule
     before codes "trace\n" before r.trace.items
 

@@ -2,8 +2,8 @@
 //!
 //! Begin at `refute` and `sweep`. Nothing is trusted of the search: what it finds is run again and watched, and the
 //! contract speaks of that run (`specs/Refuted.antt`). `tables` asks first whether a path of the state tables breaks
-//! the script at all, `paths` follows it beside the states of small cards, and `exploring` keeps the trials that come
-//! last.
+//! the script at all, `cards` chooses the cards by the capacities that the script tests and addresses, `paths` follows
+//! it beside the states of these, and `exploring` keeps the trials that come last.
 //!
 //! - `refute` returns only a refutation, with its description, schedule and trace; or, by `none_breaks`, that no path
 //!   breaks the script; or, by `find_break`, a path that does; or that `certify` writes no certificate. That no run
@@ -16,6 +16,7 @@
 mod breaking;
 mod brief;
 mod budget;
+mod capacities;
 mod cards;
 mod codes;
 mod exits;

@@ -1,10 +1,10 @@
 //! The mishaps of a run in words, with the lines of the script.
 
-use crate::refuting::{Refutation, image_blocks, input_of, zero_image};
+use crate::refuting::{Refutation, blank_image, input_of};
 use sdv_behavior::{Behavior, CardDesc};
 use sdv_controller::Controller;
 use sdv_graph::Graph;
-use sdv_image::MemImage;
+use sdv_named_schedules::BlankImage;
 use sdv_refute::{Beside, Next, Onlooker, Watched, try_graph};
 use sdv_run::{RunFault, Standing};
 use sdv_sim::Sim;
@@ -53,8 +53,8 @@ impl Recorder<'_> {
     }
 }
 
-impl Onlooker<Controller<Sim<MemImage>>> for Recorder<'_> {
-    fn sees(&mut self, _: &Controller<Sim<MemImage>>, standing: &Standing, next: &Next) {
+impl Onlooker<Controller<Sim<BlankImage>>> for Recorder<'_> {
+    fn sees(&mut self, _: &Controller<Sim<BlankImage>>, standing: &Standing, next: &Next) {
         let code = self.schedule.get(self.event).copied().unwrap_or(0);
         match Behavior::of_code(code) {
             None | Some(Behavior::Prompt) => (),
@@ -79,10 +79,10 @@ fn mishaps_of(
         mishaps: Vec::new(alloc),
         failed: false,
     };
-    let Ok(desc) = CardDesc::parse(refutation.card) else {
+    let Ok(desc) = CardDesc::parse(refutation.card.as_str()) else {
         return Err(AllocError);
     };
-    let image = zero_image(alloc, image_blocks(&desc)?)?;
+    let image = blank_image(&desc);
     let input = input_of(alloc, graph)?;
     let beside = Beside {
         desc,

@@ -56,7 +56,7 @@ fn report_of(
         u64::from(refutation.blocks),
         "\n",
     )?;
-    put(&mut text, refutation.card)?;
+    put(&mut text, refutation.card.as_str())?;
     put(&mut text, "schedule\n")?;
     text.extend_from_slice(schedule)?;
     put(&mut text, "trace\n")?;
