@@ -3,7 +3,7 @@ Schedules by name: which mishap comes at which event of a run. Each line does wh
   $ card=$EXAMPLES/sd_block.card; image=new:1024; script=$EXAMPLES/hosts/linux_read.sdv
   $ as() {
   >   printf "$1" > names; printf "$2" > digits; sdv try $script $card $image names > named 2>&1
-  >   sdv try $script $card $image digits > told 2>&1; cmp named told && tail -n 1 named
+  >   sdv try $script $card $image digits > told 2>&1; grep 'no effect' named; grep -v 'no effect' named | cmp - told && tail -n 1 told
   > }
   $ as 'CMD8: command lost' 01; as 'CMD8: lost' 01
   fault unready
@@ -39,6 +39,7 @@ Events by line, by command and by application command, with an ordinal where it 
   line 33: IN 1 comes to a card in data state that uses other data lines than the host
   line 33: IN 1 comes to a card in data state that uses other data lines than the host
   $ as 'ACMD17: lost' ''; as 'CMD17: lost' 00000000000001
+  names:1: no effect: ACMD17 was never sent
   done
   done
 
@@ -50,6 +51,10 @@ Events by their number in the run, which begins with 1. A second event with a nu
   fault noscr
   fault noscr
   $ as 'event 0: lost\nevent 16: lost\nevent 4294967295: lost\n2nd event 2: lost\n' ''
+  names:1: no effect: the first event is event 1
+  names:2: no effect: the run made 15 events
+  names:3: no effect: the run made 15 events
+  names:4: no effect: event 2 comes once
   done
   $ as 'event 5: not ready\nevent 4: not ready\nevent 6: answer lost\n' 000302
   line 14: CMD55 comes to a card in ready state, where it is not legal
@@ -149,6 +154,7 @@ Several lines, in any order. The first one that names an event counts. A mishap 
   line 14: CMD55 comes to a card in ready state, where it is not legal
   line 14: CMD55 comes to a card in ready state, where it is not legal
   $ as '2nd CMD41: answer lost\n' ''
+  names:1: no effect: CMD41 was sent once
   done
   $ as 'CMD41: answer lost\nline 16: not ready\n' 0002; as 'line 16: not ready\nCMD41: answer lost\n' 0003
   line 14: CMD55 comes to a card in ready state, where it is not legal
@@ -158,9 +164,44 @@ Several lines, in any order. The first one that names an event counts. A mishap 
   31
   done
 
-A line whose event does not come has no effect. Comments, blank lines, blanks and ends of lines of either sort may stand there.
+A line whose event does not come has no effect: that is said of each, and the status is 1. A line of which another one names the event, or whose event cannot have the mishap, is not told.
 
+  $ script=$EXAMPLES/sd_bring_up.sdv
+  $ printf 'CMD8: not ready\n# none\nline 999: lost\n9th CMD41: lost\nCMD55: not ready\nCMD41: not ready\n2nd CMD8: lost\n' > names; sdv try $script $card $image names | tail -n 1
+  names:3: no effect: the script never came to line 999
+  names:4: no effect: CMD41 was sent 2 times
+  names:7: no effect: CMD8 was sent once
+  done
+  $ sdv try $script $card $image names > /dev/null 2>&1
+  [1]
+  $ printf 'CMD41: not ready\nline 16: lost\nCMD41: answer lost\nCMD0: cut\n' | sdv try $script $card $image - | tail -n 1
+  -:2: no effect: the script never came to line 16
+  done
+  $ printf 'CMD41: not ready\nCMD41: answer lost\nCMD0: cut\n' > names; sdv try $script $card $image names | tail -n 1
+  done
+
+It is said too where the script ends in a fault, and before the reason where a run comes to what is not allowed. A run that is stopped says its own reason alone.
+
+  $ printf 'CMD7: lost\nCMD16: lost\n' > names; sdv try $script $card $image names | tail -n 1
+  names:2: no effect: CMD16 was never sent
+  fault select
+  $ printf 'CMD55: no APP_CMD\nACMD41: lost\n' > names; sdv try $EXAMPLES/hosts/seabios.sdv $card $image names 2>&1 > /dev/null
+  names:2: no effect: ACMD41 was never sent
+  line 12: CMD41 comes to a card in idle state without the application flag
+  [1]
+  $ printf 'CMD12: lost\n' > names; sdv try $EXAMPLES/hosts/linux_write.sdv $card $image names 2>&1 > /dev/null
+  run fault Input
+  [1]
+
+Comments, blank lines, blanks and ends of lines of either sort may stand there.
+
+  $ script=$EXAMPLES/hosts/linux_read.sdv
   $ as 'CMD25: lost\nline 1: lost\nline 4294967295: lost\n4294967294th CMD0: lost\n111th CMD0: cut\n' ''
+  names:1: no effect: CMD25 was never sent
+  names:2: no effect: the script never came to line 1
+  names:3: no effect: the script never came to line 4294967295
+  names:4: no effect: CMD0 was sent once
+  names:5: no effect: CMD0 was sent once
   done
   $ as '# CMD8 alone\r\n\r\n \t\n\tCMD8:\t lost # the first\r\n' 01; as 'CMD008:lost' 01; as '# none\n' ''
   fault unready

@@ -103,16 +103,31 @@ impl Read for Slow {
 #[test]
 fn audits_what_comes_slowly(rt: HostRuntime) {
     let mut out = Vec::new(rt.alloc());
+    let mut notes = Vec::new(rt.alloc());
     let mut lines = LinePort::new(io::empty(), io::sink());
     let letters = ["audit", "sd", "letters"];
-    let found = answer(rt.alloc(), &SlowFiles, &letters, &mut lines, &mut out);
+    let found = answer(
+        rt.alloc(),
+        &SlowFiles,
+        &letters,
+        &mut lines,
+        &mut out,
+        &mut notes,
+    );
     assert!(rt;
         matches!(found, Err(Fault::Trace(_))),
         "letters are no trace"
     );
     let broken = ["audit", "sd", "broken"];
     let mut lines = LinePort::new(io::empty(), io::sink());
-    let found = answer(rt.alloc(), &SlowFiles, &broken, &mut lines, &mut out);
+    let found = answer(
+        rt.alloc(),
+        &SlowFiles,
+        &broken,
+        &mut lines,
+        &mut out,
+        &mut notes,
+    );
     assert!(rt; found == Err(Fault::File("broken")));
     assert!(rt; out.is_empty());
 }

@@ -6,6 +6,7 @@ use Rattle.std.specs.List.{AllByRecursion}
 use Rattle.clap.specs.Words.{Text}
 use Rattle.sdv_named_schedules.specs.declared.fault.ScheduleFault.{ScheduleFault}
 use Rattle.sdv_named_schedules.specs.declared.fault.ScheduleFault.TheVariants as why
+use Rattle.sdv_named_schedules.specs.declared.idle.Idle.{Idle}
 use Rattle.sdv_program.specs.Requests.{TryNames}
 use Rattle.sdv_program.specs.Fault.{fault_of_schedule}
 use Rattle.sdv_program.specs.declared.fault.Fault.{Fault}
@@ -43,15 +44,16 @@ module _ (files : Files) where
 
 -- VALUES
 
-values_so : (bytes codes : List ℕ) (schedule : Schedule) → IsReadSo bytes schedule → HasValues schedule codes → AreValuesOf bytes codes
-values_so bytes codes (Values values) read has = inl (read.0, has ∙ read.1)
-values_so bytes codes (Names mishaps) read has = inr (read.0, mishaps.items, read.1, has)
+values_so : (bytes codes : List ℕ) (idle : List Idle) (schedule : Schedule) → IsReadSo bytes schedule → HasValues schedule codes idle
+    → AreValuesOf bytes codes idle
+values_so bytes codes idle (Values values) read has = inl (read.0, has.0 ∙ read.1, has.1)
+values_so bytes codes idle (Names mishaps) read has = inr (read.0, mishaps.items, read.1, has)
 
-pub values_given : (files : Files) (name : Option Text) (schedule : Schedule) (codes : List ℕ) → GivesMishaps files name schedule → HasValues schedule codes
-    → GivesValues files name codes
-values_given files None (Values values) codes given has = has ∙ given
-values_given files None (Names mishaps) codes given has = absurd given
-values_given files (Some file) schedule codes given has = (given.0, given.1, values_so given.0 codes schedule given.2 has)
+pub values_given : (files : Files) (name : Option Text) (schedule : Schedule) (codes : List ℕ) (idle : List Idle) → GivesMishaps files name schedule
+    → HasValues schedule codes idle → GivesValues files name codes idle
+values_given files None (Values values) codes idle given has = (has.0 ∙ given, has.1)
+values_given files None (Names mishaps) codes idle given has = absurd given
+values_given files (Some file) schedule codes idle given has = (given.0, given.1, values_so given.0 codes idle schedule given.2 has)
 
 -- WHAT A FAULT SAYS of the files of a run
 

@@ -28,9 +28,10 @@ use Rattle.sdv_refute.specs.Tries.{HasNoCard, IsUnmadeFor, TryRefuses}
 use Rattle.sdv_refute.proofs.ToldRun.{quiet_without_memory}
 use Rattle.sdv_program.specs.Requests.{TryNames}
 use Rattle.sdv_named_schedules.specs.declared.fault.ScheduleFault.{ScheduleFault}
+use Rattle.sdv_named_schedules.specs.declared.idle.Idle.{Idle}
 use Rattle.sdv_program.specs.Fault.{fault_of_card, fault_of_script, fault_of_try}
 use Rattle.sdv_program.specs.declared.fault.Fault.{Fault}
-use Rattle.sdv_program.specs.declared.fault.Fault.TheVariants.{File, Script, Card, Schedule as Unscheduled, OtherKind, Memory as NoMemory}
+use Rattle.sdv_program.specs.declared.fault.Fault.TheVariants.{File, Script, Card, Schedule as Unscheduled, OtherKind, Named, Memory as NoMemory}
 use Rattle.sdv_program.specs.Files.{CardImage, Files}
 use Rattle.sdv_program.specs.Outcomes.{outcome_of}
 use Rattle.sdv_program.proofs.StartLaws.{keeps_same}
@@ -40,7 +41,7 @@ use Rattle.sdv_commands.proofs.GivenLaws.{both_used, input_gave, text_gave}
 use Rattle.sdv_commands.proofs.RunLaws.{refused_so}
 use Rattle.sdv_commands.specs.declared.attempt.Given.{Given}
 use Rattle.sdv_commands.specs.Schedules.{GivesValues}
-use Rattle.sdv_commands.specs.Try.{Answers, AreGiven, ComesTo, EndsApart, FailsToKeep, HasNoCardOver, HasWrongSchedule, IsKept, IsLost, IsUnreadFor, RefusesTry, TryFails, uses_of}
+use Rattle.sdv_commands.specs.Try.{Answers, AreGiven, ComesTo, EndsApart, FailsToKeep, HasNoCardOver, HasWrongSchedule, IsKept, IsLost, IsUnreadFor, RefusesTry, TryFails, unless_idle, uses_of}
 
 -- WHY NOTHING IS RUN
 
@@ -147,9 +148,10 @@ module _ (files : Files) (names : TryNames) (given : Given) (image : CardImage) 
 
 -- THE FILES
 
-values_used : (files : Files) (name : Option Text) (codes : List ℕ) → GivesValues files name codes → AllByRecursion (IsUsed files) (some_use as_schedule name)
-values_used files None codes given = tt
-values_used files (Some file) codes given = ((schedule_codes given.0, (given.0, given.1, refl)), tt)
+values_used : (files : Files) (name : Option Text) (codes : List ℕ) (idle : List Idle) → GivesValues files name codes idle
+    → AllByRecursion (IsUsed files) (some_use as_schedule name)
+values_used files None codes idle given = tt
+values_used files (Some file) codes idle given = ((schedule_codes given.0, (given.0, given.1, refl)), tt)
 
 module _ (files : Files) (names : TryNames) where
   abbrev pub three : List FileUse → List FileUse
@@ -183,7 +185,7 @@ module _ (files : Files) (names : TryNames) where
     place = output_place names.schedule names.input names.output file is;
     used = three_used (text_gave files names.script given.script are.script) (text_gave files names.card given.card are.card) image are.of_image
         (some_use as_schedule names.schedule ++ some_use as_input names.input)
-        (both_used files (some_use as_schedule names.schedule) (some_use as_input names.input) (values_used files names.schedule given.codes.items are.schedule)
+        (both_used files (some_use as_schedule names.schedule) (some_use as_input names.input) (values_used files names.schedule given.codes.items given.idle.items are.schedule)
         (input_gave files names.input given.input.items are.input));
     failed = uncreated;
   }
@@ -209,6 +211,11 @@ module _ (files : Files) (names : TryNames) (trace trace' : Option (List ℕ)) w
       → EndsApart files names (outcome_of r) trace trace'
   unread_ends fault unread kept (Ok x) is = absurd is
   unread_ends fault unread kept (Err f) is = rw is (unready fault unread kept)
+
+  -- memory was refused before the run
+  pub memory_ends : {T : Type 0} (r : Result T Fault) → IsErrAnd r (λ f. f ≡ NoMemory) → Keeps trace trace' → EndsApart files names (outcome_of r) trace trace'
+  memory_ends (Ok x) is kept = absurd is
+  memory_ends (Err f) is kept = rw is kept
 
   module _ (given : Given) (image : CardImage) (are : AreGiven files names given image) where
     fails_of : (fault : Fault) → FailsToKeep files names given image fault trace trace' → TryFails files names fault trace trace'
@@ -252,10 +259,23 @@ module _ (files : Files) (names : TryNames) (trace trace' : Option (List ℕ)) w
       unmoved : IsKept files names given image (Err runs.Memory) out out' trace trace' → Keeps trace trace'
       unmoved kept = quiet_without_memory _ _ _ _ _ _ kept.tried.tries.watched
 
-      pub ended : (end : Result Watched RunFault) (outcome : Option Fault) → Answers end outcome → IsKept files names given image end out out' trace trace'
-          → EndsApart files names outcome trace trace'
-      ended (Ok (Ended ends.Done)) outcome answers kept = rw answers (comes _ kept)
-      ended (Ok (Ended (ends.Fault name))) outcome answers kept = rw answers (ends.Fault name, (λ same. absurd (cc same)), comes _ kept)
+      -- a run that came to its end, by the lines of the schedule that had no effect
+      done_by : (idle : List Idle) → given.idle.items ≡ idle → IsKept files names given image (Ok (Ended ends.Done)) out out' trace trace'
+          → EndsApart files names (unless_idle idle None) trace trace'
+      unfolding comes
+      done_by [] same kept = (comes _ kept, same)
+      done_by (line ∷ lines) same kept = (ends.Done, comes _ kept, (λ none. absurd (cc (same, none))))
+
+      fault_by : (name : _) (idle : List Idle) → given.idle.items ≡ idle → IsKept files names given image (Ok (Ended (ends.Fault name))) out out' trace trace'
+          → EndsApart files names (unless_idle idle (Some Named)) trace trace'
+      unfolding comes
+      fault_by name [] same kept = (ends.Fault name, (λ is. absurd (cc is)), (comes _ kept, same))
+      fault_by name (line ∷ lines) same kept = (ends.Fault name, comes _ kept, (λ none. absurd (cc (same, none))))
+
+      pub ended : (end : Result Watched RunFault) (outcome : Option Fault) → Answers given.idle.items end outcome
+          → IsKept files names given image end out out' trace trace' → EndsApart files names outcome trace trace'
+      ended (Ok (Ended ends.Done)) outcome answers kept = rw answers (done_by given.idle.items refl kept)
+      ended (Ok (Ended (ends.Fault name))) outcome answers kept = rw answers (fault_by name given.idle.items refl kept)
       ended (Ok (Stopped wrong)) outcome answers kept = rw answers.2 (wrong, answers.1, comes _ kept)
       ended (Err runs.Reply) outcome answers kept = rw answers (comes _ kept)
       ended (Err runs.Input) outcome answers kept = rw answers (comes _ kept)

@@ -6,6 +6,7 @@ use Rattle.clap.specs.Words.{Text}
 use Rattle.sdv_named_schedules.specs.Naming.{AreNamed}
 use Rattle.sdv_named_schedules.specs.Reading.{is_letter, reading}
 use Rattle.sdv_named_schedules.specs.declared.fault.ScheduleFault.{ScheduleFault}
+use Rattle.sdv_named_schedules.specs.declared.idle.Idle.{Idle}
 use Rattle.sdv_named_schedules.specs.declared.naming.NamedMishap.{NamedMishap}
 use Rattle.sdv_program.specs.declared.fault.Fault.{Fault}
 use Rattle.sdv_program.specs.declared.fault.Fault.TheVariants.{Schedule as Unscheduled}
@@ -49,18 +50,20 @@ IsUngiven files name fault =
 
 -- VALUES
 
-abbrev pub HasValues : Schedule → (codes : List ℕ) → Type 0
-HasValues (Values values) codes = codes ≡ values.items
-HasValues (Names mishaps) codes = AreNamed mishaps.items codes
+-- each digit has an effect
+abbrev pub HasValues : Schedule → (codes : List ℕ) → (idle : List Idle) → Type 0
+HasValues (Values values) codes idle = (codes ≡ values.items) × (idle ≡ [])
+HasValues (Names mishaps) codes idle = AreNamed mishaps.items codes idle
 
--- the bytes are these digits, or mishaps by name that give some events of a run these values
-abbrev pub AreValuesOf : (bytes codes : List ℕ) → Type 0
-AreValuesOf bytes codes =
-    ((is_by_name bytes ≡ false) × (codes ≡ schedule_codes bytes))
+-- the bytes are these digits, or mishaps by name that give some events of a run these values; the lines without effect are
+-- those of the events that are not among these
+abbrev pub AreValuesOf : (bytes codes : List ℕ) → (idle : List Idle) → Type 0
+AreValuesOf bytes codes idle =
+    ((is_by_name bytes ≡ false) × (codes ≡ schedule_codes bytes) × (idle ≡ []))
     ⊎ ((is_by_name bytes ≡ true) × (mishaps : List NamedMishap) × (reading bytes ≡ Ok mishaps)
-    × AreNamed mishaps codes)
+    × AreNamed mishaps codes idle)
 
 -- the values for a run, by what its file gave; without a file there are none
-abbrev pub GivesValues : Files → Option Text → (codes : List ℕ) → Type 0
-GivesValues files None codes = codes ≡ []
-GivesValues files (Some file) codes = (bytes : List ℕ) × files.gives file bytes × AreValuesOf bytes codes
+abbrev pub GivesValues : Files → Option Text → (codes : List ℕ) → (idle : List Idle) → Type 0
+GivesValues files None codes idle = (codes ≡ []) × (idle ≡ [])
+GivesValues files (Some file) codes idle = (bytes : List ℕ) × files.gives file bytes × AreValuesOf bytes codes idle

@@ -19,8 +19,9 @@ use Rattle.sdv_wrong_words.specs.declared.event.WrongEvent.{WrongEvent}
 use Rattle.sdv_wrong_words.specs.WrongEvent.{IsEventOf}
 use Rattle.sdv_program.specs.Requests.{TryNames}
 use Rattle.sdv_program.specs.declared.fault.Fault.{Fault}
-use Rattle.sdv_program.specs.declared.fault.Fault.TheVariants.{File, Script, Card, Schedule, Run, OtherKind, Wrong, Named, Memory}
+use Rattle.sdv_program.specs.declared.fault.Fault.TheVariants.{File, Script, Card, Schedule, Run, OtherKind, Wrong, NoEffect, Named, Memory}
 use Rattle.sdv_named_schedules.specs.declared.fault.ScheduleFault.{ScheduleFault}
+use Rattle.sdv_named_schedules.specs.declared.idle.Idle.{Idle}
 use Rattle.sdv_program.specs.Fault.{fault_of_run}
 use Rattle.sdv_program.specs.Files.{CardImage, Files}
 use Rattle.sdv_program.specs.Outcomes.{Ending}
@@ -47,7 +48,7 @@ pub record AreGiven (files : Files) (names : TryNames) (given : Given) (image : 
   pub script : files.gives names.script (string_bytes given.script)
   pub card : files.gives names.card (string_bytes given.card)
   pub of_image : GivesImage files names.image image
-  pub schedule : GivesValues files names.schedule given.codes.items
+  pub schedule : GivesValues files names.schedule given.codes.items given.idle.items
   pub input : GivesInput files names.input given.input.items
   pub lines : given.lines ≡ names.lines
 
@@ -134,12 +135,18 @@ pub record HasNoTry (files : Files) (names : TryNames) (fault : Fault) (trace tr
   pub refused : RefusesTry given image (IsUnreadable files names.image) fault
   pub kept : Keeps trace trace'
 
+-- what the program answers to a run that came to its end, by the lines of the schedule that had no effect
+abbrev pub unless_idle : List Idle → Option Fault → Option Fault
+unless_idle [] outcome = outcome
+unless_idle (line ∷ lines) outcome = Some NoEffect
+
 -- what the program answers to a run that came to this
-abbrev pub Answers : Result Watched RunFault → Option Fault → Type 0
-Answers (Ok (Ended ends.Done)) outcome = outcome ≡ None
-Answers (Ok (Ended (ends.Fault name))) outcome = outcome ≡ Some Named
-Answers (Ok (Stopped wrong)) outcome = (event : WrongEvent) × IsEventOf wrong event × (outcome ≡ Some (Wrong event))
-Answers (Err fault) outcome = outcome ≡ Some (fault_of_run fault)
+abbrev pub Answers : List Idle → Result Watched RunFault → Option Fault → Type 0
+Answers idle (Ok (Ended ends.Done)) outcome = outcome ≡ unless_idle idle None
+Answers idle (Ok (Ended (ends.Fault name))) outcome = outcome ≡ unless_idle idle (Some Named)
+Answers idle (Ok (Stopped wrong)) outcome =
+    (event : WrongEvent) × IsEventOf wrong event × (outcome ≡ Some (Wrong event))
+Answers idle (Err fault) outcome = outcome ≡ Some (fault_of_run fault)
 
 -- the file of the image did not take the card's blocks, or there was no run
 abbrev pub FailsToKeep : Files → TryNames → Given → CardImage → Fault → (trace trace' : Option (List ℕ)) → Type 0
@@ -148,6 +155,11 @@ FailsToKeep files names given image (File file) trace trace' =
 FailsToKeep files names given image fault trace trace' =
     RefusesTry given image (IsUnreadable files names.image) fault × Keeps trace trace'
 
+-- The run came to this end, and each line of a schedule by name had an effect.
+abbrev pub HasEffect : Files → TryNames → End → (trace trace' : Option (List ℕ)) → Type 0
+HasEffect files names end trace trace' =
+    (came : ComesTo files names (Ok (Ended end)) trace trace') × (came.given.idle.items ≡ [])
+
 -- FAULTS: what each says of a run, and of what was printed. A run that has no memory is no run fault, but want of memory
 abbrev pub TryFails : Files → TryNames → Fault → (trace trace' : Option (List ℕ)) → Type 0
 TryFails files names (File file) trace trace' =
@@ -155,7 +167,9 @@ TryFails files names (File file) trace trace' =
 TryFails files names (Wrong event) trace trace' =
     (wrong : WrongHere) × IsEventOf wrong event × ComesTo files names (Ok (Stopped wrong)) trace trace'
 TryFails files names Named trace trace' =
-    (end : End) × (end ≢ ends.Done) × ComesTo files names (Ok (Ended end)) trace trace'
+    (end : End) × (end ≢ ends.Done) × HasEffect files names end trace trace'
+TryFails files names NoEffect trace trace' =
+    (end : End) × (came : ComesTo files names (Ok (Ended end)) trace trace') × (came.given.idle.items ≢ [])
 TryFails files names (Run runs.Memory) trace trace' = ⊥
 TryFails files names (Run fault) trace trace' = ComesTo files names (Err fault) trace trace'
 TryFails files names (Schedule why) trace trace' = HasWrongSchedule files names why × Keeps trace trace'
@@ -163,7 +177,7 @@ TryFails files names Memory trace trace' = Keeps trace trace'
 TryFails files names fault trace trace' = HasNoTry files names fault trace trace'
 
 abbrev pub EndsApart : Files → TryNames → Ending
-EndsApart files names None trace trace' = ComesTo files names (Ok (Ended ends.Done)) trace trace'
+EndsApart files names None trace trace' = HasEffect files names ends.Done trace trace'
 EndsApart files names (Some fault) trace trace' = TryFails files names fault trace trace'
 
 -- THE COMMAND: no file is lost by a slip

@@ -12,12 +12,12 @@ use crate::given::{GivenImage, image_file, image_in, input_in};
 use crate::run::close_image;
 use crate::schedules::{schedule_in, values_of};
 use sdv_image::{BlockFile, FileImage};
-use sdv_named_schedules::Beside;
+use sdv_named_schedules::{Beside, Idle, Named, put_idle};
 use sdv_program::{Fault, Role, Store, TryFiles, clash, text_in};
 use sdv_refute::{Given as Texts, Tried, Watched, try_text};
 use sdv_run::{End, RunFault};
 use sdv_wrong_words::wrong_event;
-use std::alloc::Global;
+use std::alloc::{AllocError, Global};
 use std::io::{self, Write};
 
 /// The texts and bytes that a run without a certificate is given, but for the image.
@@ -27,6 +27,8 @@ pub struct Given {
     pub card: String,
     /// The values of the schedule, one for each event.
     pub codes: Vec<u8>,
+    /// The lines of a schedule by name that have no effect.
+    pub idle: Vec<Idle>,
     /// The blocks that the script gives, one after another.
     pub input: Vec<u8>,
     /// The trace tells each change of the host's data lines.
@@ -40,6 +42,7 @@ impl Drop for Given {
             script: _script,
             card: _card,
             codes: _codes,
+            idle: _idle,
             input: _input,
             lines: _lines,
         } = self;
@@ -66,6 +69,8 @@ pub struct Outcome<F: BlockFile> {
 /// - [`Fault::Schedule`]: the schedule is one by name, and a line of it is wrong. Nothing was run or printed.
 /// - [`Fault::Card`], [`Fault::Script`], [`Fault::OtherKind`], [`Fault::Memory`]: nothing was run or printed.
 /// - [`Fault::Wrong`]: what comes next is not allowed at the card, and was not done.
+/// - [`Fault::NoEffect`]: the script came to its end, and the event of a line of a schedule by name did not come. The trace is
+///   whole. The notes have a line for each such line of the schedule.
 /// - [`Fault::Named`]: the script ended in a fault that it names, or in `number`. The trace is whole.
 /// - [`Fault::Run`]: the run stopped before its end for another reason.
 pub fn try_files<'a, S: Store, T: Write>(
@@ -73,6 +78,7 @@ pub fn try_files<'a, S: Store, T: Write>(
     files: &S,
     names: TryFiles<'a>,
     trace: &mut T,
+    notes: &mut Vec<u8>,
 ) -> Result<(), Fault<'a>>
     ensures { TryEnds (S.known files.now) (try_names_of names.entry)
         (outcome_of result) (T.contents trace.old) (T.contents trace.new) }
@@ -88,7 +94,7 @@ pub fn try_files<'a, S: Store, T: Write>(
     if let Some(file) = clash(files, &roles) {
         return Err(Fault::File(file));
     }
-    try_apart(alloc, files, names, trace)
+    try_apart(alloc, files, names, trace, notes)
 }
 
 /// The same where the file of the output is none of the others.
@@ -97,20 +103,25 @@ fn try_apart<'a, S: Store, T: Write>(
     files: &S,
     names: TryFiles<'a>,
     trace: &mut T,
+    notes: &mut Vec<u8>,
 ) -> Result<(), Fault<'a>>
     ensures { EndsApart (S.known files.now) (try_names_of names.entry)
         (outcome_of result) (T.contents trace.old) (T.contents trace.new) }
 {
     let (given, image) = given_by(alloc, files, &names)?;
+    put_notes(notes, names.schedule, &given.idle)?;
     match names.output {
-        None => end_of(try_kept(alloc, files, &names, &given, image, &mut io::sink(), trace)?),
+        None => {
+            let end = try_kept(alloc, files, &names, &given, image, &mut io::sink(), trace)?;
+            end_of(&given.idle, end)
+        }
         Some(file) => {
             let mut sink = files.create(file).ok_or(Fault::File(file))?;
             let end = try_kept(alloc, files, &names, &given, image, &mut sink, trace)?;
             if !files.finish(file, sink) {
                 return Err(Fault::File(file));
             }
-            end_of(end)
+            end_of(&given.idle, end)
         }
     }
 }
@@ -139,11 +150,12 @@ fn given_by<'a, S: Store>(
         card: card.as_str(),
         input: blocks,
     };
-    let codes = values_of(alloc, schedule, &beside)?;
+    let Named { codes, idle } = values_of(alloc, schedule, &beside)?;
     let given = Given {
         script,
         card,
         codes,
+        idle,
         input,
         lines: names.lines,
     };
@@ -220,11 +232,20 @@ fn try_given<F: BlockFile + Drop, O: Write, T: Write>(
     Ok(Outcome { end: result, image })
 }
 
-/// What the program answers, by how a run came out.
-fn end_of(end: Result<Watched, RunFault>) -> Result<(), Fault<'static>>
-    ensures { Answers end (outcome_of result) }
+/// Says of each line of a schedule by name that had no effect why it had none.
+fn put_notes(notes: &mut Vec<u8>, schedule: Option<&str>, idle: &[Idle]) -> Result<(), AllocError> {
+    for line in idle {
+        put_idle(notes, schedule.unwrap_or(""), line)?;
+    }
+    Ok(())
+}
+
+/// What the program answers, by how a run came out, and by the lines of its schedule that had no effect.
+fn end_of(idle: &[Idle], end: Result<Watched, RunFault>) -> Result<(), Fault<'static>>
+    ensures { Answers idle.now end (outcome_of result) }
 {
     match end? {
+        Watched::Ended(_) if !idle.is_empty() => Err(Fault::NoEffect),
         Watched::Ended(End::Done) => Ok(()),
         Watched::Ended(End::Fault(_)) => Err(Fault::Named),
         Watched::Stopped(wrong) => Err(Fault::Wrong(wrong_event(&wrong))),

@@ -30,7 +30,8 @@ use crate::sweeping::sweep_files;
 use sdv_lines::LinePort;
 use sdv_program::{Fault, MachineFiles, Request, Store, request_of, usage_line};
 use sdv_text::write_text;
-use std::alloc::Global;
+use sdv_wrong_words::{WrongEvent, write_wrong_event};
+use std::alloc::{AllocError, Global};
 use std::io::{self, Read, Write};
 use std::rt::Files;
 
@@ -59,9 +60,10 @@ pub fn program_over_lines<R: Files + AllocGlobal, I: Read, L: Write, O: Write, E
     ensures no_memory { AreWhole (texts words.now) → result ≡ 3
         → Keeps (O.contents out.old) (O.contents out.new) }
 {
-    match answer(rt.alloc(), &MachineFiles(rt), words, lines, out) {
+    let mut notes = Vec::new(rt.alloc());
+    match answer(rt.alloc(), &MachineFiles(rt), words, lines, out, &mut notes) {
         Ok(()) => 0,
-        Err(fault) => report(rt.alloc(), words, fault, err),
+        Err(fault) => report(rt.alloc(), words, fault, &notes, err),
     }
 }
 
@@ -85,14 +87,52 @@ pub fn program<R: Files + AllocGlobal, O: Write, E: Write>(
     program_over_lines(rt, words, &mut lines, out, err)
 }
 
-/// Says why there is no answer, and gives the exit status. Of words that are no request it says which one is wrong.
-fn report<E: Write>(alloc: Global, words: &[&str], fault: Fault<'_>, err: &mut E) -> u8
+/// Says why there is no answer, and gives the exit status. Of words that are no request it says which one is wrong, and of a
+/// run in which lines of the schedule had no effect what the notes say.
+fn report<E: Write>(
+    alloc: Global,
+    words: &[&str],
+    fault: Fault<'_>,
+    notes: &[u8],
+    err: &mut E,
+) -> u8
     ensures status { result ≡ status_of fault.entry }
     ensures said { Says fault.entry (E.contents err.old) (E.contents err.new) }
 {
     match fault {
         Fault::Usage => report_usage(alloc, words, err),
+        Fault::NoEffect => report_notes(notes, err),
+        Fault::Wrong(event) => report_wrong(alloc, event, notes, err),
         _ => fault.report(err),
+    }
+}
+
+/// Says which lines of a schedule had no effect.
+fn report_notes<E: Write>(notes: &[u8], err: &mut E) -> u8
+    ensures status { result ≡ status_of Fault.NoEffect }
+    ensures said { SaysLine notes.now (E.contents err.old) (E.contents err.new) }
+{
+    let _ = write_text(err, notes);
+    1
+}
+
+/// Says what is not allowed at the card, and before it which lines of a schedule had no effect.
+fn report_wrong<E: Write>(alloc: Global, event: WrongEvent, notes: &[u8], err: &mut E) -> u8
+    ensures status { result ≡ status_of (Fault.Wrong event) }
+    ensures said { Says (Fault.Wrong event) (E.contents err.old) (E.contents err.new) }
+{
+    match with_notes(alloc, event, notes) {
+        Ok(text) => report_notes(text.as_slice(), err),
+        Err(_) => Fault::Wrong(event).report(err),
+    }
+}
+
+/// The notes, and then what is not allowed at the card.
+fn with_notes(alloc: Global, event: WrongEvent, notes: &[u8]) -> Result<Vec<u8>, AllocError> {
+    let mut text = Vec::from_slice(alloc, notes)?;
+    match write_wrong_event(event, &mut text) {
+        Ok(()) => Ok(text),
+        Err(_) => Err(AllocError),
     }
 }
 
@@ -116,7 +156,8 @@ fn say_line<E: Write>(line: &[u8], err: &mut E) -> u8
     2
 }
 
-/// Answers a line of the program from these files. A line that asks for help or for the version is answered by that page. The
+/// Answers a line of the program from these files. A line that asks for help or for the version is answered by that page. What
+/// is to be said of a run beside its fault is added to the notes. The
 /// clause says what the files gave and took, by their names, and of a file that cannot be used what was
 /// tried and failed.
 pub fn answer<'a, S: Store, I: Read, L: Write, O: Write>(
@@ -125,6 +166,7 @@ pub fn answer<'a, S: Store, I: Read, L: Write, O: Write>(
     words: &'a [&'a str],
     lines: &mut LinePort<I, L>,
     out: &mut O,
+    notes: &mut Vec<u8>,
 ) -> Result<(), Fault<'a>>
     requires { (streams_of I.remaining L.contents lines.old).fault ≡ None }
     ensures { EndsWords (S.known files.now) (streams_of I.remaining L.contents lines.old)
@@ -135,7 +177,7 @@ pub fn answer<'a, S: Store, I: Read, L: Write, O: Write>(
         return print_page(alloc, page, out);
     }
     let request = request_of(alloc, words)?;
-    answer_request(alloc, files, request, lines, out)
+    answer_request(alloc, files, request, lines, out, notes)
 }
 
 /// Answers a request from these files.
@@ -145,6 +187,7 @@ pub fn answer_request<'a, S: Store, I: Read, L: Write, O: Write>(
     request: Request<'a>,
     lines: &mut LinePort<I, L>,
     out: &mut O,
+    notes: &mut Vec<u8>,
 ) -> Result<(), Fault<'a>>
     requires { (streams_of I.remaining L.contents lines.old).fault ≡ None }
     ensures { EndsRequest (S.known files.now) (streams_of I.remaining L.contents lines.old)
@@ -170,7 +213,7 @@ pub fn answer_request<'a, S: Store, I: Read, L: Write, O: Write>(
             serve_card(alloc, files, names, &mut lines.reader, &mut lines.writer)
         }
         Request::Review { script, json } => review_file(alloc, files, script, json, out),
-        Request::Try(names) => try_files(alloc, files, names, out),
+        Request::Try(names) => try_files(alloc, files, names, out, notes),
         Request::Refute(names) => refute_file(alloc, files, names, out),
         Request::Sweep(names) => sweep_files(alloc, files, names, out),
         Request::Decode(words) => decode_files(alloc, files, words, out),

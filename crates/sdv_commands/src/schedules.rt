@@ -4,7 +4,7 @@ ghost use Rattle.sdv_commands.specs.Schedules.{GivesMishaps, HasValues, IsReadSo
 
 use crate::given::codes_of;
 use sdv_named_schedules::{
-    Beside, NamedMishap, ScheduleFault, codes_by_name, is_by_name, read_mishaps,
+    Beside, Named, NamedMishap, ScheduleFault, codes_by_name, is_by_name, read_mishaps,
 };
 use sdv_program::{Fault, Store, bytes_in};
 use std::alloc::{AllocError, Global};
@@ -53,7 +53,8 @@ pub fn schedule_in<'a, S: Store>(
     }
 }
 
-/// The values of a schedule, one for each event. Mishaps by name get their events from runs of the script.
+/// The values of a schedule, one for each event, and its lines without effect. Mishaps by name get their events from runs of
+/// the script.
 ///
 /// # Errors
 ///
@@ -62,11 +63,14 @@ pub fn values_of(
     alloc: Global,
     schedule: Schedule,
     beside: &Beside<'_>,
-) -> Result<Vec<u8>, AllocError>
-    ensures { IfOk result (λ codes. HasValues schedule codes.items) }
+) -> Result<Named, AllocError>
+    ensures { IfOk result (λ named. HasValues schedule named.codes.items named.idle.items) }
 {
     match schedule {
-        Schedule::Values(codes) => Ok(codes),
+        Schedule::Values(codes) => Ok(Named {
+            codes,
+            idle: Vec::new(alloc),
+        }),
         Schedule::Names(mishaps) => codes_by_name(alloc, beside, mishaps.as_slice()),
     }
 }

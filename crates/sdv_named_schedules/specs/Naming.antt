@@ -1,5 +1,6 @@
 -- WHAT A SCHEDULE BY NAME MEANS: the value of each event of a run is that of the first mishap that names it, or 0.
-use Rattle.std.specs.Prelude.{◌≡◌, ◌+◌, ◌-◌, ◌==◌, ◌&&◌, nat_lt, ℕ, List, [], ◌∷◌, Bool, false, map, Option, Some, None, if◌then◌else◌}
+use Rattle.std.specs.Prelude.{◌≡◌, ◌+◌, ◌-◌, ◌==◌, ◌&&◌, nat_lt, ℕ, List, [], ◌∷◌, Bool, false, filter, is_none, map, Option, Some, None, if◌then◌else◌}
+use Rattle.sdv_named_schedules.specs.declared.idle.Idle.{Idle}
 use Rattle.sdv_named_schedules.specs.declared.naming.EventName.{EventName}
 use Rattle.sdv_named_schedules.specs.declared.naming.EventName.TheVariants.{Line, Command, Application, Number}
 use Rattle.sdv_named_schedules.specs.declared.naming.NamedMishap.{NamedMishap}
@@ -50,6 +51,16 @@ values_from number places (event ∷ events) = value_at number places ∷ values
 abbrev pub named_codes : List NamedMishap → List SeenEvent → List ℕ
 named_codes mishaps events = values_from 0 (map (placed events) mishaps) events
 
--- The values are those that the mishaps give the events of a run. Which run that is is not said.
-abbrev pub AreNamed : List NamedMishap → (codes : List ℕ) → Type 0
-AreNamed mishaps codes = (events : List SeenEvent) × (codes ≡ named_codes mishaps events)
+-- LINES WITHOUT EFFECT: the event of the mishap does not come
+abbrev pub is_idle : (events : List SeenEvent) → NamedMishap → Bool
+is_idle events m = is_none (named_place 0 m.ordinal m.event events)
+
+abbrev pub mishap_of : Idle → NamedMishap
+mishap_of idle = idle.mishap
+
+-- The values are those that the mishaps give the events of a run, and the lines without effect are those of the mishaps
+-- whose events do not come in it. Which run that is is not said.
+pub record AreNamed (mishaps : List NamedMishap) (codes : List ℕ) (idle : List Idle) : Type 0 where
+  pub events : List SeenEvent
+  pub values : codes ≡ named_codes mishaps events
+  pub lines : map mishap_of idle ≡ filter (is_idle events) mishaps

@@ -131,7 +131,7 @@ read_line number text =
     or_fault (Event number) (after (codes ":") event.1) >>= λ rest.
     or_fault (Mishap number) (read_mishap (skipped rest)) >>= λ mishap.
     if is_over mishap.1
-    then Ok (record { ordinal = ordinal.0; event = event.0; code = mishap.0 }) else Err (Mishap number)
+    then Ok (record { line = number; ordinal = ordinal.0; event = event.0; code = mishap.0 }) else Err (Mishap number)
 
 -- A TEXT
 

@@ -4,6 +4,7 @@ ghost use Rattle.std.specs.Prelude.{IfOk};
 ghost use Rattle.sdv_named_schedules.specs.Naming.{AreNamed};
 
 use crate::blank::BlankImage;
+use crate::idle::{Idle, idle_mishaps};
 use crate::naming::{NamedMishap, SeenEvent, named_codes};
 use sdv_behavior::CardDesc;
 use sdv_controller::Controller;
@@ -27,6 +28,29 @@ pub struct Beside<'a> {
     pub card: &'a str,
     /// The blocks that the script gives.
     pub input: &'a [[u8; 512]],
+}
+
+/// What a schedule by name gives the events of a run.
+#[derive(Drop)]
+pub struct Named {
+    /// The values, one for each event.
+    pub codes: Vec<u8>,
+    /// The lines whose events do not come.
+    pub idle: Vec<Idle>,
+}
+
+/// What mishaps give some events.
+fn named_of(
+    alloc: Global,
+    mishaps: &[NamedMishap],
+    events: &[SeenEvent],
+) -> Result<Named, AllocError>
+    ensures { IfOk result (λ named. AreNamed mishaps.now named.codes.items named.idle.items) }
+{
+    Ok(Named {
+        codes: named_codes(alloc, mishaps, events)?,
+        idle: idle_mishaps(alloc, mishaps, events)?,
+    })
 }
 
 /// Somebody who keeps the events of a run.
@@ -111,10 +135,10 @@ fn settled_len(used: &[u8], named: &[u8]) -> Option<usize> {
     None
 }
 
-/// The values that mishaps by name give the events of a run of a script, beside the card of a description. The run is made
+/// What mishaps by name give the events of a run of a script, beside the card of a description. The run is made
 /// with the values that are known so far; where an event has a name, its value is set, and the run is made again. The events
 /// up to there stay the same, so there are at most as many runs as mishaps, and one more. They are made over blocks that
-/// never fail. Where nothing is run, there are no values.
+/// never fail. Where nothing is run, there are no events.
 ///
 /// # Errors
 ///
@@ -123,21 +147,21 @@ pub fn codes_by_name(
     alloc: Global,
     beside: &Beside<'_>,
     mishaps: &[NamedMishap],
-) -> Result<Vec<u8>, AllocError>
-    ensures { IfOk result (λ codes. AreNamed mishaps.now codes.items) }
+) -> Result<Named, AllocError>
+    ensures { IfOk result (λ named. AreNamed mishaps.now named.codes.items named.idle.items) }
 {
     let graph = match graph_of_text(alloc, beside.script) {
         Ok(graph) => graph,
         Err(fault) => {
             return match fault.kind {
                 FaultKind::Memory => Err(AllocError),
-                _ => named_codes(alloc, mishaps, &[]),
+                _ => named_of(alloc, mishaps, &[]),
             };
         }
     };
     match CardDesc::parse(beside.card) {
         Ok(desc) => settled_codes(alloc, &graph, desc, beside.input, mishaps),
-        Err(_) => named_codes(alloc, mishaps, &[]),
+        Err(_) => named_of(alloc, mishaps, &[]),
     }
 }
 
@@ -148,8 +172,8 @@ fn settled_codes(
     desc: CardDesc,
     input: &[[u8; 512]],
     mishaps: &[NamedMishap],
-) -> Result<Vec<u8>, AllocError>
-    ensures { IfOk result (λ codes. AreNamed mishaps.now codes.items) }
+) -> Result<Named, AllocError>
+    ensures { IfOk result (λ named. AreNamed mishaps.now named.codes.items named.idle.items) }
 {
     let mut used: Vec<u8> = Vec::new(alloc);
     for _ in 0..mishaps.len() {
@@ -163,7 +187,7 @@ fn settled_codes(
         let events = events_of(alloc, graph, beside)?;
         let mut named = named_codes(alloc, mishaps, events.as_slice())?;
         let Some(len) = settled_len(used.as_slice(), named.as_slice()) else {
-            return Ok(named);
+            return named_of(alloc, mishaps, events.as_slice());
         };
         named.truncate(len);
         used = named;
@@ -176,5 +200,5 @@ fn settled_codes(
         lines: false,
     };
     let events = events_of(alloc, graph, beside)?;
-    named_codes(alloc, mishaps, events.as_slice())
+    named_of(alloc, mishaps, events.as_slice())
 }

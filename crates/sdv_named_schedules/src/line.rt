@@ -217,6 +217,7 @@ pub fn read_line(number: u64, text: &[u8]) -> Result<NamedMishap, ScheduleFault>
         return Err(ScheduleFault::Mishap(number));
     }
     Ok(NamedMishap {
+        line: number,
         ordinal,
         event,
         code,

@@ -21,6 +21,8 @@ pub enum EventName {
 /// A mishap at an event with a name.
 #[derive(Clone, Copy, Debug, PartialEq, Eq)]
 pub struct NamedMishap {
+    /// The number of its line in the schedule.
+    pub line: u64,
     /// Which of the events with the name, from 1.
     pub ordinal: u32,
     /// The name.
@@ -59,7 +61,7 @@ fn has_index(event: &SeenEvent, index: u8) -> bool
 }
 
 /// The event with a number, from 0, has the name.
-fn is_of(name: EventName, number: usize, event: &SeenEvent) -> bool
+pub(crate) fn is_of(name: EventName, number: usize, event: &SeenEvent) -> bool
     ensures { result ≡ is_of name number event.now }
 {
     match name {
@@ -71,7 +73,7 @@ fn is_of(name: EventName, number: usize, event: &SeenEvent) -> bool
 }
 
 /// The number of the event that a mishap names.
-fn named_place(events: &[SeenEvent], mishap: &NamedMishap) -> Option<usize>
+pub(crate) fn named_place(events: &[SeenEvent], mishap: &NamedMishap) -> Option<usize>
     ensures { result ≡ named_place 0 mishap.now.ordinal mishap.now.event events.now }
 {
     let mut left = mishap.ordinal;

@@ -39,7 +39,7 @@ use Rattle.sdv_refute.specs.declared.simulated.TryFault.TheVariants as tries
 use Rattle.sdv_program.specs.declared.line.LineFault.{LineFault}
 use Rattle.sdv_program.specs.declared.line.LineFault.TheVariants as requests
 use Rattle.sdv_program.specs.declared.fault.Fault.{Fault}
-use Rattle.sdv_program.specs.declared.fault.Fault.TheVariants.{Usage, File, Script, Certificate, Refused, Uncertified, Unserved, Wide, Card, Schedule, Run, OtherKind, Wrong, NoRun, NoPath, Request, Unanswered, Named, Output, Memory, Trace, Stray, Found}
+use Rattle.sdv_program.specs.declared.fault.Fault.TheVariants.{Usage, File, Script, Certificate, Refused, Uncertified, Unserved, Wide, Card, Schedule, Run, OtherKind, Wrong, NoRun, NoPath, NoEffect, Request, Unanswered, Named, Output, Memory, Trace, Stray, Found}
 
 -- WHAT IS SAID: the lines that are fixed to the letter. Of other faults a line is said in words for people, which tests pin
 
@@ -176,6 +176,7 @@ status_of OtherKind = 1
 status_of (Wrong event) = 1
 status_of (NoRun runs mishaps ended broken) = 1
 status_of NoPath = 1
+status_of NoEffect = 1
 status_of (Request fault) = 2
 status_of (Unanswered fault) = 2
 status_of Named = 1

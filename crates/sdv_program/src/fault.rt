@@ -85,6 +85,8 @@ pub enum Fault<'a> {
     Unanswered(AskFault),
     /// The run of a script ended in a fault that the script names; its trace says so.
     Named,
+    /// A line of the schedule by name had no effect on a run that came to its end.
+    NoEffect,
     /// An audit or a review found something; its report says what.
     Found,
     /// Standard output took not all of the answer.
@@ -279,7 +281,7 @@ impl<'a> Fault<'a> {
                 1,
             Fault::Trace(_) | Fault::Stray(_) | Fault::Found | Fault::OtherKind | Fault::Wrong(_) =>
                 1,
-            Fault::NoRun { .. } | Fault::Schedule(_) | Fault::NoPath => 1,
+            Fault::NoRun { .. } | Fault::Schedule(_) | Fault::NoPath | Fault::NoEffect => 1,
             Fault::Usage
             | Fault::File(_)
             | Fault::Request(_)
@@ -326,6 +328,7 @@ impl<'a> Fault<'a> {
             | Fault::Wrong(_)
             | Fault::NoRun { .. }
             | Fault::NoPath
+            | Fault::NoEffect
             | Fault::Request(_)
             | Fault::Unanswered(_) => say_to_people(self, err),
         }
@@ -544,6 +547,7 @@ fn plain_words(fault: Fault<'_>) -> &'static str {
     match fault {
         Fault::Usage => USAGE,
         Fault::OtherKind => "the script is for another kind of card",
+        Fault::NoEffect => "a line of the schedule had no effect",
         Fault::NoPath => "no run found (no path of the state tables breaks the script)",
         Fault::Schedule(ScheduleFault::Many) => "schedule fault: more than 64 mishaps",
         Fault::Trace(TraceFault::Read) => "the trace could not be read",

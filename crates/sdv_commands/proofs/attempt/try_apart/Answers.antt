@@ -5,7 +5,7 @@ use Rattle.sdv_commands.specs.Run.{Receives}
 use Rattle.sdv_commands.specs.RunImages.{image_given}
 use Rattle.sdv_commands.proofs.RunLaws.{none_of, opened_of, unopened}
 use Rattle.sdv_program.proofs.StartLaws.{keeps_same}
-use Rattle.sdv_commands.proofs.TryLaws.{ended, finish_fails, kept_fails, made_fails, unread_ends}
+use Rattle.sdv_commands.proofs.TryLaws.{ended, finish_fails, kept_fails, made_fails, memory_ends, unread_ends}
 use Rattle.sdv_commands.proofs.attempt.try_apart.Goals as goal
 
 pub returns-in_err-given : goal.returns-in_err-given
@@ -13,12 +13,17 @@ returns-in_err-given g c =
     unread_ends (g.S.Store.known c.args.files.now) (try_names_of c.args.names) _ _ c.in_err-given.field-0.0 c.in_err-given.ensures.refused (keeps_same _)
     c.from_residual.result c.from_residual.ensures.1
 
-pub returns-in_err-try_kept-in-None : goal.returns-in_err-try_kept-in-None
-returns-in_err-try_kept-in-None g c =
+pub returns-in_err-put_notes : goal.returns-in_err-put_notes
+returns-in_err-put_notes g c =
+    memory_ends (g.S.Store.known c.args.files.now) (try_names_of c.args.names) _ _
+    c.from_residual-in_err-put_notes.result c.from_residual-in_err-put_notes.ensures.1 (keeps_same _)
+
+pub returns-in_err-end-in-None : goal.returns-in_err-end-in-None
+returns-in_err-end-in-None g c =
     kept_fails (g.S.Store.known c.args.files.now) (try_names_of c.args.names) _ _ c.in_ok-given.given
     (image_given g.S.Image.BlockFile.byte_count g.S.Image.BlockFile.blocks c.in_ok-given.image)
-    c.in_ok-given.ensures.given c.in_err-try_kept-in-None.field-0.0 c.in_err-try_kept-in-None.ensures.fails
-    c.from_residual-in_err-try_kept-in-None.result c.from_residual-in_err-try_kept-in-None.ensures.1
+    c.in_ok-given.ensures.given c.in_err-end-in-None.field-0.0 c.in_err-end-in-None.ensures.fails
+    c.from_residual-in_err-end-in-None.result c.from_residual-in_err-end-in-None.ensures.1
 
 -- without a file for the output
 none_taken : (files : Files) (output : Option (List ℕ)) (bytes : List ℕ) → output ≡ None → Receives files output bytes
@@ -31,7 +36,7 @@ returns-in-None g c =
     let image = image_given g.S.Image.BlockFile.byte_count g.S.Image.BlockFile.blocks c.in_ok-given.image in
     let output : names.output ≡ None = ap (option_map (λ file. file.now)) c.in-None.is in
     ended files names _ _ c.in_ok-given.given image c.in_ok-given.ensures.given _ _
-    (λ bytes appends. none_taken files _ bytes output) c.in_ok-try_kept-in-None.field-0 _ c.end_of.ensures c.in_ok-try_kept-in-None.ensures.kept
+    (λ bytes appends. none_taken files _ bytes output) c.in_ok-end-in-None.end _ (rw c.deref-in-None.ensures.value at c.end_of.ensures) c.in_ok-end-in-None.ensures.kept
 
 pub returns-in_err-sink-in-Some : goal.returns-in_err-sink-in-Some
 returns-in_err-sink-in-Some g c =
@@ -68,4 +73,4 @@ returns g c =
     let output = sym (ap (option_map (λ file. file.now)) c.in-Some.is) in
     ended files names _ _ c.in_ok-given.given image c.in_ok-given.ensures.given _ _
     (λ bytes appends. subst (λ output. Receives files output bytes) output (c.finish.ensures.received whole c.in_ok-sink-in-Some.sink bytes made appends))
-    c.in_ok-end-in-Some.end _ c.end_of-in-Some.ensures c.in_ok-end-in-Some.ensures.kept
+    c.in_ok-end-in-Some.end _ (rw c.deref-in-Some.ensures.value at c.end_of-in-Some.ensures) c.in_ok-end-in-Some.ensures.kept
