@@ -41,6 +41,22 @@ pub enum Reason {
     },
 }
 
+impl Reason {
+    /// A word for the reason.
+    pub fn word(self) -> &'static str {
+        match self {
+            Reason::NoCard | Reason::State(_) => "state",
+            Reason::NoCommand => "command",
+            Reason::NotForApplications | Reason::OnlyForApplications => "app-command",
+            Reason::BlockLength => "block-length",
+            Reason::EraseSequence => "erase-sequence",
+            Reason::PresetCount(_) => "preset-count",
+            Reason::NoReadDue | Reason::NoRegisterDue | Reason::NoWriteDue => "data-phase",
+            Reason::OtherLines { .. } => "data-lines",
+        }
+    }
+}
+
 /// Why an event is not legal, and whether that is so only after a step of the card's own.
 #[derive(Clone, Copy)]
 pub struct Illegality {

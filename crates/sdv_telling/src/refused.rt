@@ -2,10 +2,10 @@
 
 ghost use Rattle.std.specs.Prelude.{◌<◌, length};
 
-use crate::illegality::{Illegality, put_illegality};
+use crate::illegality::{Illegality, Reason, put_illegality};
 use crate::listing::{put_numbers, put_place};
 use crate::shapes::put_shape;
-use crate::statements::put_address;
+use crate::statements::{put_address, put_statement};
 use crate::text::{Text, put, put_all, put_with_number};
 use sdv_card::{Partition, Shape};
 use sdv_facts::Numbers;
@@ -99,6 +99,71 @@ fn put_misfit(
             put(text, unit_rule(address.unit))
         }
         None => put(text, "it has no address"),
+    }
+}
+
+/// A word for the clause that a point fails at a shape: of an address that its unit does not fit, and else that the card may
+/// not have its blocks.
+pub fn refused_word(action: &Action<'_>, why: Why, shape: Shape) -> &'static str {
+    match why {
+        Why::Illegal(Some(illegality)) => illegality.reason.word(),
+        Why::Illegal(None) => "illegal",
+        Why::EndState => "end-state",
+        Why::Address => match action {
+            Action::Send(command, _, _) => match &command.address {
+                Some(address) if !fits_unit(address.unit, shape) => "address",
+                _ => "capacity",
+            },
+            _ => "capacity",
+        },
+    }
+}
+
+/// Adds why the statement of a point is refused beside a card, on a part of a line that names the statement.
+pub fn put_reason(
+    text: &mut Text,
+    graph: &Graph<'_>,
+    number: usize,
+    why: Why,
+    beside: Beside<'_>,
+) -> Result<(), AllocError>
+    requires { number < length graph.now.points }
+{
+    let (action, names) = (&graph.point(number).action, graph.names());
+    match front_of(why, action, beside.shape) {
+        Front::Nothing => put_why(text, why, action, beside, names),
+        Front::Statement => {
+            put_statement(text, action, names)?;
+            put(text, ": ")?;
+            put_why(text, why, action, beside, names)
+        }
+        Front::Unit(unit) => {
+            put_statement(text, action, names)?;
+            put(text, unit_rule(unit))
+        }
+    }
+}
+
+/// What stands before the words of a reason, so that the statement is named once.
+enum Front {
+    /// Nothing: the reason names it.
+    Nothing,
+    /// The statement.
+    Statement,
+    /// The statement, in place of its address, of which the unit does not fit.
+    Unit(Unit),
+}
+
+fn front_of(why: Why, action: &Action<'_>, shape: Shape) -> Front {
+    match (why, action) {
+        (Why::Illegal(Some(illegality)), _)
+            if illegality.after_step.is_none() && matches!(illegality.reason, Reason::State(_)) =>
+            Front::Nothing,
+        (Why::Address, Action::Send(command, _, _)) => match &command.address {
+            Some(address) if !fits_unit(address.unit, shape) => Front::Unit(address.unit),
+            _ => Front::Statement,
+        },
+        _ => Front::Statement,
     }
 }
 
