@@ -5,6 +5,7 @@
 //! the parser's.
 
 mod before;
+mod every;
 mod hint;
 mod lines;
 mod offers;
@@ -12,4 +13,6 @@ mod page;
 mod place;
 mod tries;
 
+pub use every::{TextFault, TextFaults, faults_of};
+pub use lines::text_line;
 pub use page::fault_page;

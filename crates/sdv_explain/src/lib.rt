@@ -13,6 +13,7 @@
 //!   the points that end in a fault and the edges to them are left out (`specs/Drawing.antt`).
 //! - `fault_page`: where a text is no script, and what can stand there (`specs/Page.antt`). That is asked of the
 //!   parser: it is given the text before the place with each word behind it, so there is no second grammar.
+//! - `faults_of`: every fault of a text at once, the parser's first.
 //! - `judge`: `accepted` with the bound only where the checker accepts the pair, and otherwise why it does not
 //!   (`specs/Judged.antt`).
 //! - `describe_given`: what a description says of a card, or the first line that is wrong (`specs/Described.antt`).
@@ -40,8 +41,8 @@ mod way;
 pub use describing::{CardPage, describe_given};
 pub use drawing::draw;
 pub use explaining::{Explanation, explain};
-pub use failing::Failure;
-pub use hints::fault_page;
+pub use failing::{Failure, failures_of};
+pub use hints::{TextFault, TextFaults, fault_page, faults_of, text_line};
 pub use judging::{CertificateRefusal, Verdict, judge};
 pub use reason::reason_of;
 pub use refusal::{Refusal, refusal_of};

@@ -8,6 +8,8 @@ use std::alloc::{AllocError, Global};
 pub struct Before<'a> {
     /// The names that the script declares.
     pub names: Vec<&'a str>,
+    /// The last of them, where it is the last token.
+    pub ends_in: Option<&'a str>,
     /// The line of the last token; 0 where there is none.
     pub last: u32,
     /// The last token is the sign of a comparison.
@@ -23,8 +25,8 @@ fn pass(at: &mut Cursor<'_>) {
     }
 }
 
-/// The names that a text declares after its first two words.
-fn names_in<'a>(alloc: Global, text: &'a str) -> Result<Vec<&'a str>, AllocError> {
+/// The names that a text declares after its first two words, and whether it ends there.
+fn names_in<'a>(alloc: Global, text: &'a str) -> Result<(Vec<&'a str>, bool), AllocError> {
     let mut names = Vec::new(alloc);
     let mut at = Cursor::new(text);
     pass(&mut at);
@@ -35,7 +37,7 @@ fn names_in<'a>(alloc: Global, text: &'a str) -> Result<Vec<&'a str>, AllocError
         }
         at.advance();
     }
-    Ok(names)
+    Ok((names, at.is_end()))
 }
 
 /// A token that stands in declarations.
@@ -65,7 +67,8 @@ fn count_brace(unclosed: &mut Vec<u32>, at: &Cursor<'_>) -> Result<(), AllocErro
 
 /// What stands before a place, by the text up to it.
 pub fn before_of<'a>(alloc: Global, text: &'a str) -> Result<Before<'a>, AllocError> {
-    let names = names_in(alloc, text)?;
+    let (names, is_end) = names_in(alloc, text)?;
+    let ends_in = if is_end { names.last().copied() } else { None };
     let mut unclosed = Vec::new(alloc);
     let (mut last, mut compares) = (0, false);
     let mut at = Cursor::new(text);
@@ -77,6 +80,7 @@ pub fn before_of<'a>(alloc: Global, text: &'a str) -> Result<Before<'a>, AllocEr
     }
     Ok(Before {
         names,
+        ends_in,
         last,
         compares,
         unclosed,

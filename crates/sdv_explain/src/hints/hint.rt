@@ -16,6 +16,8 @@ use std::alloc::AllocError;
 pub enum Hint<'a> {
     /// A word that can stand there is spelled almost like it.
     Meant(&'a str),
+    /// This word is likely meant in place of the name before the place.
+    MeantBefore(&'a str, &'a str),
     /// The word is reserved.
     Reserved,
     /// Commands are numbers, this one with these digits.
@@ -90,7 +92,7 @@ const STATEMENTS: [&str; 13] = [
 const OF_DEVICES: [&str; 3] = ["ext.blocks", "ext.boot", "part.access"];
 
 /// A hint, if one is likely to help.
-pub fn hint_of<'a>(clue: &Clue<'a>, offers: &[Offer<'a>], before: &Before<'_>) -> Option<Hint<'a>>
+pub fn hint_of<'a>(clue: &Clue<'a>, offers: &[Offer<'a>], before: &Before<'a>) -> Option<Hint<'a>>
     ensures { IsHintFor clue.now.kind clue.now.found result }
 {
     match clue.kind {
@@ -103,7 +105,7 @@ pub fn hint_of<'a>(clue: &Clue<'a>, offers: &[Offer<'a>], before: &Before<'_>) -
 }
 
 /// The hint at a place where something else was to stand: by what stands before it, by what stands there, or by what can.
-fn place_hint<'a>(clue: &Clue<'a>, offers: &[Offer<'a>], before: &Before<'_>) -> Option<Hint<'a>> {
+fn place_hint<'a>(clue: &Clue<'a>, offers: &[Offer<'a>], before: &Before<'a>) -> Option<Hint<'a>> {
     if let Some(hint) = before_hint(clue, offers, before) {
         return Some(hint);
     }
@@ -121,19 +123,28 @@ fn place_hint<'a>(clue: &Clue<'a>, offers: &[Offer<'a>], before: &Before<'_>) ->
 
 /// The hint by what stands before the place, where that says more than the word there: a brace that is not closed, or the
 /// sign of a comparison.
-fn before_hint(
-    clue: &Clue<'_>,
-    offers: &[Offer<'_>],
-    before: &Before<'_>,
-) -> Option<Hint<'static>> {
+fn before_hint<'a>(clue: &Clue<'_>, offers: &[Offer<'_>], before: &Before<'a>) -> Option<Hint<'a>> {
     if lacks_brace(clue.written, offers) {
         return innermost_hint(before.unclosed.as_slice());
+    }
+    if let Some(name) = before.ends_in {
+        return name_hint(name);
     }
     match clue.found {
         Found::Sign if before.compares => Some(Hint::Comparison),
         Found::Name | Found::Key if before.compares => Some(Hint::WrittenNumber),
         _ => None,
     }
+}
+
+/// The last name that is declared is spelled almost as the beginning of a statement.
+fn name_hint(name: &str) -> Option<Hint<'_>> {
+    for word in &STATEMENTS {
+        if is_near(name.as_bytes(), word.as_bytes()) {
+            return Some(Hint::MeantBefore(word, name));
+        }
+    }
+    None
 }
 
 /// The innermost brace that is open is not closed.
@@ -294,7 +305,7 @@ fn limit_words(found: Found) -> &'static str {
 /// The words of a hint, up to its own part if it has one.
 fn words_of(hint: &Hint<'_>) -> &'static str {
     match hint {
-        Hint::Meant(_) => "did you mean `",
+        Hint::Meant(_) | Hint::MeantBefore(_, _) => "did you mean `",
         Hint::Command(_) => "commands are numbers: write ",
         Hint::NoElse(_) => "`else` is missing after line ",
         Hint::Unclosed(_) => "the `{` of line ",
@@ -325,16 +336,23 @@ pub fn put_hint(page: &mut Text, hint: &Option<Hint<'_>>) -> Result<(), AllocErr
     let Some(hint) = hint else {
         return Ok(());
     };
+    put(page, "hint: ")?;
+    put_hint_words(page, hint)?;
+    put(page, "\n")
+}
+
+/// Adds the words of a hint.
+pub fn put_hint_words(page: &mut Text, hint: &Hint<'_>) -> Result<(), AllocError> {
     let mut buffer = Buffer::new();
-    put_all(page, &["hint: ", words_of(hint)])?;
+    put(page, words_of(hint))?;
     match *hint {
-        Hint::Meant(word) => put_all(page, &[word, "`?\n"]),
-        Hint::Command(digits) => {
-            page.extend_from_slice(digits)?;
-            put(page, "\n")
+        Hint::Meant(word) => put_all(page, &[word, "`?"]),
+        Hint::MeantBefore(word, name) => {
+            put_all(page, &[word, "` in place of `", name, "` before it?"])
         }
-        Hint::NoElse(line) => put_all(page, &[buffer.format(line), "\n"]),
-        Hint::Unclosed(line) => put_all(page, &[buffer.format(line), " is not closed\n"]),
-        _ => put(page, "\n"),
+        Hint::Command(digits) => page.extend_from_slice(digits),
+        Hint::NoElse(line) => put(page, buffer.format(line)),
+        Hint::Unclosed(line) => put_all(page, &[buffer.format(line), " is not closed"]),
+        _ => Ok(()),
     }
 }

@@ -1,7 +1,7 @@
 //! The lines of a text, as they are shown.
 
 ghost use Rattle.std.specs.Prelude.{◌≡◌, ◌++◌, ◌-◌, ◌≤◌, OnOk, IfOk, length};
-ghost use Rattle.sdv_explain.specs.Lines.{behind_chars, behind_line, blank, blanks, char_count, first_chars, from_line, is_control, is_direction, is_further, is_isolate, is_second_control, line_len, safe, safe_byte, shown_back, shown_front, without_return};
+ghost use Rattle.sdv_explain.specs.Lines.{behind_chars, behind_line, blank, blanks, char_count, first_chars, from_line, is_control, is_direction, is_further, is_isolate, is_second_control, line_at, line_len, safe, safe_byte, shown_back, shown_front, without_return};
 
 use std::alloc::{AllocError, Global};
 
@@ -52,6 +52,14 @@ pub fn without_return(line: &[u8]) -> &[u8]
     }
 }
 
+/// The line of a text with a number, counted from 1, as it is written.
+pub fn text_line(text: &[u8], line: u32) -> &[u8]
+    ensures { result.now ≡ without_return (line_at line text.now) }
+{
+    let rest = from_line(text, line);
+    without_return(&rest[..line_len(rest)])
+}
+
 /// A byte that does not begin a character.
 fn is_further(byte: u8) -> bool
     ensures { result ≡ is_further byte }
@@ -60,7 +68,7 @@ fn is_further(byte: u8) -> bool
 }
 
 /// How many characters a text has.
-fn char_count(text: &[u8]) -> usize
+pub fn char_count(text: &[u8]) -> usize
     ensures { result ≡ char_count text.now }
 {
     text.iter().filter(|byte| !is_further(**byte)).count()

@@ -7,7 +7,9 @@ ghost use Rattle.sdv_explain.specs.Page.{Tells, caret_words, line_words, shown_w
 
 use crate::hints::before::before_of;
 use crate::hints::hint::{Clue, Hint, hint_of, put_hint};
-use crate::hints::lines::{from_line, line_len, put_back, put_blanks, shown_front, without_return};
+use crate::hints::lines::{
+    char_count, from_line, line_len, put_back, put_blanks, shown_front, without_return,
+};
 use crate::hints::offers::{Offer, offers_at, put_offers};
 use crate::hints::place::{Found, LONG, Place, Spot, place_at, stop_in};
 use crate::hints::tries::Front;
@@ -19,6 +21,8 @@ use std::str;
 /// What a page tells.
 #[derive(Drop)]
 pub struct Told<'a> {
+    /// The token begins at this byte of the text.
+    pub start: usize,
     /// Where the parser stops.
     pub place: Place<'a>,
     /// What stands there.
@@ -45,6 +49,11 @@ pub fn fault_page(alloc: Global, text: &str, fault: ScriptFault) -> Result<Text,
     Ok(page)
 }
 
+/// The column of a place, in characters, counted from 1.
+pub(crate) fn column_of(place: &Place<'_>) -> usize {
+    char_count(place.front).saturating_add(1)
+}
+
 /// The line of a text.
 fn line_at(text: &[u8], line: u32) -> &[u8]
     ensures { result.now ≡ line_at line text.now }
@@ -54,7 +63,11 @@ fn line_at(text: &[u8], line: u32) -> &[u8]
 }
 
 /// What the page of a fault tells.
-fn told_of<'a>(alloc: Global, text: &'a [u8], fault: ScriptFault) -> Result<Told<'a>, AllocError>
+pub(crate) fn told_of<'a>(
+    alloc: Global,
+    text: &'a [u8],
+    fault: ScriptFault,
+) -> Result<Told<'a>, AllocError>
     ensures { IfOk result (λ told. IsPlaceIn (line_at fault.line text.entry.now) told.place) }
 {
     let line = line_at(text, fault.line);
@@ -75,6 +88,7 @@ fn told_long<'a>(alloc: Global, line: &'a [u8]) -> Told<'a>
     ensures { IsPlaceIn line.entry.now result.place }
 {
     Told {
+        start: 0,
         place: place_at(line, &LONG),
         found: Found::Long,
         offers: Vec::new(alloc),
@@ -108,6 +122,7 @@ fn told_at<'a>(
     };
     let hint = hint_of(&clue, &offers, &around);
     Ok(Told {
+        start: len,
         place,
         found: spot.found,
         offers,
@@ -153,7 +168,7 @@ fn put_caret(page: &mut Text, shown: &[u8]) -> Result<(), AllocError>
     put(page, "^\n")
 }
 
-fn sort_words(found: Found) -> &'static str {
+pub(crate) fn sort_words(found: Found) -> &'static str {
     match found {
         Found::Key => "a reserved word",
         Found::Name => "a name",
