@@ -43,4 +43,6 @@ pub use finding::{Finding, Matter, Name, Reach};
 pub use finds::find;
 pub use reviewing::{Report, review};
 pub use status::{Erase, ErasePart, Status};
+pub use text::{kind_word, line_at};
+pub use words::matter_words;
 pub use writes::find_writes;

@@ -20,7 +20,8 @@ fn status_kind(status: Status) -> &'static str
     }
 }
 
-fn kind_word(matter: Matter) -> &'static str
+/// The word for the kind of a finding.
+pub fn kind_word(matter: Matter) -> &'static str
     ensures { result.now ≡ kind_word matter }
 {
     match matter {
