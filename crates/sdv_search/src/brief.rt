@@ -4,7 +4,7 @@ ghost use Rattle.std.specs.Prelude.{IfOk, IfSome};
 ghost use Rattle.sdv_script.specs.OneGraph.{IsGraphOfScript};
 ghost use Rattle.sdv_script.specs.Script.{IsScript};
 ghost use Rattle.sdv_script.specs.Shown.{shown};
-ghost use Rattle.sdv_search.specs.Refuted.{HasRefutation};
+ghost use Rattle.sdv_search.specs.Refuted.{HasRefutation, IsRefutation};
 
 use crate::mishaps::mishaps_in_words;
 use crate::refuting::{Found, Refutation, refute};
@@ -36,17 +36,50 @@ pub fn shown_run(
     requires graph { IsGraphOfScript (shown script.now) graph.now }
     ensures { IfOk result (λ words. IfSome words (λ _. HasRefutation (shown script.now).text)) }
 {
-    if graph.steps() > MOST_MOVES {
-        return Ok(None);
-    }
-    let Found { refutation, .. } = refute(alloc, script, graph, BUDGET)?;
-    match refutation {
+    match brief_run(alloc, script, graph)? {
         Some(run) => {
             let words = brief(alloc, graph, refused, &run)?;
             Ok(Some(words))
         }
         None => Ok(None),
     }
+}
+
+/// A run that refutes a script, if a short search finds one. None where a run of the script may make many moves.
+///
+/// # Errors
+///
+/// Memory was refused.
+pub fn brief_run(
+    alloc: Global,
+    script: &Script<'_>,
+    graph: &Graph<'_>,
+) -> Result<Option<Refutation>, AllocError>
+    requires script { IsScript (shown script.now) }
+    requires graph { IsGraphOfScript (shown script.now) graph.now }
+    ensures { IfOk result (λ run. IfSome run (IsRefutation (shown script.now).text)) }
+{
+    if graph.steps() > MOST_MOVES {
+        return Ok(None);
+    }
+    let Found { refutation, .. } = refute(alloc, script, graph, BUDGET)?;
+    Ok(refutation)
+}
+
+/// What is told of a run that refutes a script on lines that begin with blanks: its mishaps, and why it stops.
+///
+/// # Errors
+///
+/// Memory was refused.
+pub fn run_lines(
+    alloc: Global,
+    graph: &Graph<'_>,
+    run: &Refutation,
+) -> Result<Vec<u8>, AllocError> {
+    let mut text = mishaps_in_words(alloc, graph, "    mishap   ", run)?;
+    put(&mut text, "    wrong    ")?;
+    text.extend_from_slice(&why(alloc, &run.wrong)?)?;
+    Ok(text)
 }
 
 /// The words for a run that refutes a script, which is refused at a point.
@@ -61,9 +94,7 @@ fn brief(
         &mut text,
         "a run that breaks the script, beside a simulated card:\n",
     )?;
-    text.extend_from_slice(&mishaps_in_words(alloc, graph, "    mishap   ", run)?)?;
-    put(&mut text, "    wrong    ")?;
-    text.extend_from_slice(&why(alloc, &run.wrong)?)?;
+    text.extend_from_slice(&run_lines(alloc, graph, run)?)?;
     put(
         &mut text,
         "    `sdv refute` prints its card, its schedule and its trace\n",

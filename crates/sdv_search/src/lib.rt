@@ -34,7 +34,7 @@ mod tables;
 mod turns;
 
 pub use breaking::report_break;
-pub use brief::shown_run;
+pub use brief::{brief_run, run_lines, shown_run};
 pub use refuting::{Found, Refutation, refute};
 pub use reporting::report;
 pub use sweeping::{Row, RunEnd, SweepGiven, SweepTable, sweep};
