@@ -6,7 +6,7 @@ use Rattle.sdv_commands.specs.Refute.{IsTold, RefuteEnds, Untold}
 use Rattle.sdv_commands.specs.Sweep.{ImageEnds, InputEnds}
 use Rattle.sdv_commands.specs.Try.{TryEnds}
 use Rattle.sdv_commands.specs.Run.{RunEnds}
-use Rattle.sdv_program.specs.Requests.{CardNames, EmitNames, RefuteNames, RunNames, SweepNames, TryNames, Request, frame, certify, check, run, batch, explain, graph, emit, audit, decode, drive, serve, describe, review, attempt, sweep, refute}
+use Rattle.sdv_program.specs.Requests.{CardNames, EmitNames, RefuteNames, RunNames, SweepNames, TryNames, Request, verify, frame, certify, check, run, batch, explain, graph, emit, audit, decode, drive, serve, describe, review, attempt, sweep, refute}
 use Rattle.sdv_program.specs.CommandLine.{request_of_words}
 use Rattle.sdv_program.specs.declared.line.LineFault.{LineFault}
 use Rattle.sdv_program.specs.declared.line.LineFault.TheVariants as requests
@@ -64,6 +64,7 @@ module _ (files : Files) (s s' : Streams) (before after : Option (List ℕ)) whe
   -- page of a description, a review and a sweep
   quiet-kept : (request : Request) → IsQuiet request → (fault : Fault) → fault ≢ Output → EndsRequest files s s' request (Some fault) before after
       → Keeps before after
+  quiet-kept (verify names) quiet fault other ends = absurd quiet
   quiet-kept (frame index argument) quiet fault other ends =
       prints-kept before after (IsFrameText index argument) (WriteNone index argument) fault other ends.1
   quiet-kept (certify script) quiet fault other ends =
@@ -121,6 +122,7 @@ module _ (files : Files) (s s' : Streams) (before after : Option (List ℕ)) whe
 
   -- nothing is printed for want of memory, but by an audit
   memory-kept : (request : Request) → IsWhole request → EndsRequest files s s' request (Some Memory) before after → Keeps before after
+  memory-kept (verify names) whole ends = ends.1
   memory-kept (frame index argument) whole ends = ends.1
   memory-kept (certify script) whole ends =
       over-kept before after files script (λ (text : Text). Prints (IsCertificate text) (HasNone text)) (Some Memory) (λ text kept. kept) ends.1

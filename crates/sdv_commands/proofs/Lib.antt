@@ -28,3 +28,4 @@ pub mod TakenLaws
 pub mod TalkLaws
 pub mod TryLaws
 pub mod UntriedLaws
+mod VerifyLaws

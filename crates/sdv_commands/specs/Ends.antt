@@ -4,7 +4,7 @@ use Rattle.std.specs.Prelude.{◌≡◌, ◌⊎◌, ℕ, true, false, List, Opti
 use Rattle.std.specs.Io.KnownBytes.{Keeps}
 use Rattle.clap.specs.Words.{Text}
 use Rattle.sdv_program.specs.CommandLine.{request_of_words}
-use Rattle.sdv_program.specs.Requests.{Request, frame, certify, check, run, batch, explain, graph, emit, audit, decode, drive, serve, describe, review, attempt, sweep, refute}
+use Rattle.sdv_program.specs.Requests.{Request, verify, frame, certify, check, run, batch, explain, graph, emit, audit, decode, drive, serve, describe, review, attempt, sweep, refute}
 use Rattle.sdv_program.specs.Fault.{Says, status_of}
 use Rattle.sdv_program.specs.declared.fault.Fault.{Fault}
 use Rattle.sdv_program.specs.declared.fault.Fault.TheVariants.{Usage, Memory}
@@ -29,6 +29,7 @@ use Rattle.sdv_commands.specs.Frame.{FrameEnds}
 use Rattle.sdv_commands.specs.Graph.{GraphEnds}
 use Rattle.sdv_commands.specs.Page.{PrintsPage, asks_page}
 use Rattle.sdv_commands.specs.Review.{ReviewEnds}
+use Rattle.sdv_commands.specs.Verify.{VerifyEnds}
 
 -- REQUESTS, command by command
 
@@ -41,6 +42,7 @@ abbrev pub KeepsLines : (s s' : Streams) → Ending → Ending
 KeepsLines s s' Ends outcome before after = (s' ≡ s) × Ends outcome before after
 
 abbrev pub EndsRequest : Files → (s s' : Streams) → Request → Ending
+EndsRequest files s s' (verify names) = KeepsLines s s' (VerifyEnds files names)
 EndsRequest files s s' (frame index argument) = KeepsLines s s' (FrameEnds index argument)
 EndsRequest files s s' (certify script) = KeepsLines s s' (CertifyEnds files script)
 EndsRequest files s s' (check script certificate) = KeepsLines s s' (CheckEnds files script certificate)
@@ -63,6 +65,7 @@ EndsRequest files s s' (decode names) = KeepsLines s s' (DecodeEnds files names)
 -- report of an audit, the lines of a trace, the page of a card description, a review and the table of all runs with one mishap
 -- are printed then too.
 abbrev pub IsQuiet : Request → Type 0
+IsQuiet (verify names) = ⊥
 IsQuiet (run names) = ⊥
 IsQuiet (explain names) = ⊥
 IsQuiet (graph names) = ⊥

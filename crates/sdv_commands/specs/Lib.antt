@@ -8,6 +8,7 @@ pub mod Decode
 pub mod Describe
 pub mod Drive
 pub mod Emit
+pub mod Verify
 pub mod Ends
 pub mod Explain
 pub mod Frame

@@ -18,6 +18,7 @@
 //! - `try` stops before what is not allowed, and the line on standard error has the reason; such a run refutes the
 //!   script (`specs/Try.antt`). `refute` prints only what is told of a run that refutes the script, or of a path of
 //!   the state tables that breaks it. `try --each` has a row for each event.
+//! - `verify` ends well exactly where each file gave a script that is accepted, of which nothing counts.
 //! - `review` and `audit` end well exactly where nothing was found. `batch` prints only the text of the requests.
 //!   `emit` prints the table of the accepted script, once the file of `--binary` took its words.
 //! - No command opens a file where an output is one of its other files, by what the store says of two names.
@@ -52,3 +53,4 @@ mod run;
 mod schedules;
 pub mod start;
 mod sweeping;
+mod verify;

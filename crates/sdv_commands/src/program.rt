@@ -27,6 +27,7 @@ use crate::refutation::refute_file;
 use crate::review::review_file;
 use crate::run::run_files;
 use crate::sweeping::sweep_files;
+use crate::verify::verify_files;
 use sdv_lines::LinePort;
 use sdv_program::{Fault, MachineFiles, Request, Store, request_of, usage_line};
 use sdv_text::write_text;
@@ -195,6 +196,7 @@ pub fn answer_request<'a, S: Store, I: Read, L: Write, O: Write>(
         (outcome_of result) (O.contents out.old) (O.contents out.new) }
 {
     match request {
+        Request::Verify(words) => verify_files(alloc, files, &words, out),
         Request::Frame { index, argument } => print_frame(index, argument, out),
         Request::Certify { script } => certify_file(alloc, files, script, out),
         Request::Check {

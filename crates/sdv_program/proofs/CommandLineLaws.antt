@@ -10,7 +10,7 @@ use Rattle.clap.specs.Simple.{entered, filled_from, help_rule, index_after, labe
 use Rattle.clap.specs.Faults.{entered_fault, level_fault}
 use Rattle.clap.specs.Words.{App, app_of, HasKind, Kinds, Row, Shape, Text, built, fault_of, first_of, is_simple, is_simple_and_free, kind_of, matches_of, subcommand_of, takes}
 use Rattle.clap.specs.declared.error.Error.{Error}
-use Rattle.sdv_program.specs.Commands.{Command, Word, commands, required, optional, with_value, flag}
+use Rattle.sdv_program.specs.Commands.{Command, Word, commands, required, optional, several, with_value, repeated, flag}
 use Rattle.sdv_program.specs.Lines.{Line, by_word, line_in, seen_line}
 use Rattle.sdv_program.specs.CommandLine.{app_for, command_line, fault_of_clap, meaning_of, line_without, rule_for, with_word}
 use Rattle.sdv_program.specs.declared.line.Line.{Line as CodeLine}
@@ -94,11 +94,13 @@ meaning-fault words some = go (fault_of command_line words) some
 
 -- each word of the table takes one word, or is a flag
 one_word : (i : ℕ) (words : List Word) → AllByRecursion TakesOneWord (filled_from i (map rule_for words ++ help_rule ∷ []))
-one_word i [] = (inr (inr refl), tt)
+one_word i [] = (inr (inr (inr refl)), tt)
 one_word i (required name ∷ words) = (inl (refl, refl), one_word (index_after i (rule_for (required name))) words)
 one_word i (optional name ∷ words) = (inl (refl, refl), one_word (index_after i (rule_for (optional name))) words)
+one_word i (several name ∷ words) = (inr (inl (refl, refl)), one_word (index_after i (rule_for (several name))) words)
 one_word i (with_value name ∷ words) = (inl (refl, refl), one_word (index_after i (rule_for (with_value name))) words)
-one_word i (flag name ∷ words) = (inr (inl (refl, omega arith)), one_word (index_after i (rule_for (flag name))) words)
+one_word i (repeated name ∷ words) = (inr (inl (refl, refl)), one_word (index_after i (rule_for (repeated name))) words)
+one_word i (flag name ∷ words) = (inr (inr (inl (refl, omega arith))), one_word (index_after i (rule_for (flag name))) words)
 
 -- a command as it is built, and its words
 abbrev shape : ℕ → Shape
@@ -135,80 +137,83 @@ frame_means words none =
     let rows = (rows_at (shape 0) words).1 in
     then_given (codes "INDEX") _ rows (given.0 refl) (λ _. one_given (codes "ARG") _ rows (given.1.0 refl))
 
-certify_means : Means (shape 1)
-certify_means words none =
-    let given = leaf_required (shape 1) words (one_word 1 (words_of 1)) none in
-    let rows = (rows_at (shape 1) words).1 in
-    one_given (codes "SCRIPT") _ rows (given.0 refl)
+verify_means : Means (shape 1)
+verify_means words none = refl
 
-check_means : Means (shape 2)
-check_means words none =
+certify_means : Means (shape 2)
+certify_means words none =
     let given = leaf_required (shape 2) words (one_word 1 (words_of 2)) none in
     let rows = (rows_at (shape 2) words).1 in
-    then_given (codes "SCRIPT") _ rows (given.0 refl) (λ _. one_given (codes "CERT") _ rows (given.1.0 refl))
+    one_given (codes "SCRIPT") _ rows (given.0 refl)
 
-run_means : Means (shape 3)
-run_means words none =
+check_means : Means (shape 3)
+check_means words none =
     let given = leaf_required (shape 3) words (one_word 1 (words_of 3)) none in
     let rows = (rows_at (shape 3) words).1 in
-    then_given (codes "SCRIPT") _ rows (given.0 refl) (λ _. then_given (codes "CERT") _ rows (given.1.0 refl) (λ _. then_given (codes "CARD") _ rows (given.1.1.0 refl) (λ _. one_given (codes "IMAGE") _ rows (given.1.1.1.0 refl))))
-
-batch_means : Means (shape 4)
-batch_means words none =
-    let given = leaf_required (shape 4) words (one_word 1 (words_of 4)) none in
-    let rows = (rows_at (shape 4) words).1 in
-    then_given (codes "KIND") _ rows (given.0 refl) (λ _. one_given (codes "REQUESTS") _ rows (given.1.0 refl))
-
-explain_means : Means (shape 5)
-explain_means words none =
-    let given = leaf_required (shape 5) words (one_word 1 (words_of 5)) none in
-    let rows = (rows_at (shape 5) words).1 in
-    one_given (codes "SCRIPT") _ rows (given.0 refl)
-
-emit_means : Means (shape 6)
-emit_means words none =
-    let given = leaf_required (shape 6) words (one_word 1 (words_of 6)) none in
-    let rows = (rows_at (shape 6) words).1 in
-    then_given (codes "SCRIPT") _ rows (given.0 refl) (λ _. then_given (codes "CERT") _ rows (given.1.0 refl) (λ _. one_given (codes "NAME") _ rows (given.1.1.0 refl)))
-
-audit_means : Means (shape 7)
-audit_means words none =
-    let given = leaf_required (shape 7) words (one_word 1 (words_of 7)) none in
-    let rows = (rows_at (shape 7) words).1 in
-    then_given (codes "KIND") _ rows (given.0 refl) (λ _. one_given (codes "TRACE") _ rows (given.1.0 refl))
-
-drive_means : Means (shape 8)
-drive_means words none =
-    let given = leaf_required (shape 8) words (one_word 1 (words_of 8)) none in
-    let rows = (rows_at (shape 8) words).1 in
     then_given (codes "SCRIPT") _ rows (given.0 refl) (λ _. one_given (codes "CERT") _ rows (given.1.0 refl))
 
-card_means : Means (shape 9)
-card_means words none =
-    let given = leaf_required (shape 9) words (one_word 1 (words_of 9)) none in
-    let rows = (rows_at (shape 9) words).1 in
-    one_given (codes "CARD") _ rows (given.0 refl)
+run_means : Means (shape 4)
+run_means words none =
+    let given = leaf_required (shape 4) words (one_word 1 (words_of 4)) none in
+    let rows = (rows_at (shape 4) words).1 in
+    then_given (codes "SCRIPT") _ rows (given.0 refl) (λ _. then_given (codes "CERT") _ rows (given.1.0 refl) (λ _. then_given (codes "CARD") _ rows (given.1.1.0 refl) (λ _. one_given (codes "IMAGE") _ rows (given.1.1.1.0 refl))))
 
-review_means : Means (shape 10)
-review_means words none =
-    let given = leaf_required (shape 10) words (one_word 1 (words_of 10)) none in
-    let rows = (rows_at (shape 10) words).1 in
+batch_means : Means (shape 5)
+batch_means words none =
+    let given = leaf_required (shape 5) words (one_word 1 (words_of 5)) none in
+    let rows = (rows_at (shape 5) words).1 in
+    then_given (codes "KIND") _ rows (given.0 refl) (λ _. one_given (codes "REQUESTS") _ rows (given.1.0 refl))
+
+explain_means : Means (shape 6)
+explain_means words none =
+    let given = leaf_required (shape 6) words (one_word 1 (words_of 6)) none in
+    let rows = (rows_at (shape 6) words).1 in
     one_given (codes "SCRIPT") _ rows (given.0 refl)
 
-try_means : Means (shape 11)
-try_means words none =
+emit_means : Means (shape 7)
+emit_means words none =
+    let given = leaf_required (shape 7) words (one_word 1 (words_of 7)) none in
+    let rows = (rows_at (shape 7) words).1 in
+    then_given (codes "SCRIPT") _ rows (given.0 refl) (λ _. then_given (codes "CERT") _ rows (given.1.0 refl) (λ _. one_given (codes "NAME") _ rows (given.1.1.0 refl)))
+
+audit_means : Means (shape 8)
+audit_means words none =
+    let given = leaf_required (shape 8) words (one_word 1 (words_of 8)) none in
+    let rows = (rows_at (shape 8) words).1 in
+    then_given (codes "KIND") _ rows (given.0 refl) (λ _. one_given (codes "TRACE") _ rows (given.1.0 refl))
+
+drive_means : Means (shape 9)
+drive_means words none =
+    let given = leaf_required (shape 9) words (one_word 1 (words_of 9)) none in
+    let rows = (rows_at (shape 9) words).1 in
+    then_given (codes "SCRIPT") _ rows (given.0 refl) (λ _. one_given (codes "CERT") _ rows (given.1.0 refl))
+
+card_means : Means (shape 10)
+card_means words none =
+    let given = leaf_required (shape 10) words (one_word 1 (words_of 10)) none in
+    let rows = (rows_at (shape 10) words).1 in
+    one_given (codes "CARD") _ rows (given.0 refl)
+
+review_means : Means (shape 11)
+review_means words none =
     let given = leaf_required (shape 11) words (one_word 1 (words_of 11)) none in
     let rows = (rows_at (shape 11) words).1 in
-    then_given (codes "SCRIPT") _ rows (given.0 refl) (λ _. then_given (codes "CARD") _ rows (given.1.0 refl) (λ _. one_given (codes "IMAGE") _ rows (given.1.1.0 refl)))
+    one_given (codes "SCRIPT") _ rows (given.0 refl)
 
-refute_means : Means (shape 12)
-refute_means words none =
+try_means : Means (shape 12)
+try_means words none =
     let given = leaf_required (shape 12) words (one_word 1 (words_of 12)) none in
     let rows = (rows_at (shape 12) words).1 in
+    then_given (codes "SCRIPT") _ rows (given.0 refl) (λ _. then_given (codes "CARD") _ rows (given.1.0 refl) (λ _. one_given (codes "IMAGE") _ rows (given.1.1.0 refl)))
+
+refute_means : Means (shape 13)
+refute_means words none =
+    let given = leaf_required (shape 13) words (one_word 1 (words_of 13)) none in
+    let rows = (rows_at (shape 13) words).1 in
     one_given (codes "SCRIPT") _ rows (given.0 refl)
 
 each_means : AllByRecursion Means (built command_line).subs
-each_means = (frame_means, (certify_means, (check_means, (run_means, (batch_means, (explain_means, (emit_means, (audit_means, (drive_means, (card_means, (review_means, (try_means, (refute_means, tt)))))))))))))
+each_means = (frame_means, (verify_means, (certify_means, (check_means, (run_means, (batch_means, (explain_means, (emit_means, (audit_means, (drive_means, (card_means, (review_means, (try_means, (refute_means, tt))))))))))))))
 
 found_means : (p : Shape → Bool) (shapes : List Shape) → AllByRecursion Means shapes → IfSome (find p shapes) Means
 found_means p [] each = tt

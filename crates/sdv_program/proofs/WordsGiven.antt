@@ -16,7 +16,7 @@ use Rattle.clap.specs.Faults.{bundle_fault, bundle_step_fault, check_fault, defa
 use Rattle.clap.proofs.FaultLemmas.{request_fault}
 use Rattle.clap.specs.declared.error.kind.ErrorKind.TheVariants as kind
 use Rattle.clap.specs.declared.builder.action.ArgAction.{ArgAction}
-use Rattle.clap.specs.declared.builder.action.ArgAction.TheVariants.{Set, SetTrue, Help, HelpShort, HelpLong, Version}
+use Rattle.clap.specs.declared.builder.action.ArgAction.TheVariants.{Set, Append, SetTrue, Help, HelpShort, HelpLong, Version}
 use Rattle.clap.specs.declared.parser.matches.ValueSource.{ValueSource}
 use Rattle.clap.specs.declared.parser.matches.ValueSource.TheVariants.{CommandLine, DefaultValue}
 use Rattle.clap.specs.declared.builder.value_parser.Reading.{Reading}
@@ -28,10 +28,11 @@ none_of_both (k ∷ ks) b none = cc
 
 -- ---- arguments of one word, and rows with a text
 
--- the argument takes one value in each use, or is a flag that stands for a value, or asks for help or the version
+-- the argument takes one value or more in each use, or is a flag that stands for a value, or asks for help or the version
 abbrev pub TakesOneWord : Rule → Type 0
 TakesOneWord a =
     ((action_of a ≡ Set) × ((unwrap_or_range a.range).start_inclusive ≡ 1))
+    ⊎ ((action_of a ≡ Append) × ((unwrap_or_range a.range).start_inclusive ≡ 1))
     ⊎ (((action_of a ≡ SetTrue) × (0 < length a.missing)) ⊎ (is_request (action_of a) ≡ true))
 
 abbrev pub HaveTexts : List Row → Type 0
@@ -84,9 +85,11 @@ module _ (c : List Rule) (again : Bool) (each : AllByRecursion TakesOneWord c) w
       → HaveTexts (used a values rows)
   used_texts a [] rows (inl one) none have = absurd (no_value _ _ one.1 (none_of_both _ _ none).0)
   used_texts a (v ∷ vs) rows (inl one) none have = rw one.0 (given_texts a.id _ CommandLine (v ∷ vs) rows (omega arith) have)
-  used_texts a [] rows (inr (inl flag)) none have = rw flag.0 (given_texts a.id _ CommandLine a.missing rows flag.1 have)
-  used_texts a (v ∷ vs) rows (inr (inl flag)) none have = rw flag.0 (given_texts a.id _ CommandLine (v ∷ vs) rows (omega arith) have)
-  used_texts a values rows (inr (inr request)) none have =
+  used_texts a [] rows (inr (inl one)) none have = absurd (no_value _ _ one.1 (none_of_both _ _ none).0)
+  used_texts a (v ∷ vs) rows (inr (inl one)) none have = rw one.0 (added_texts a.id _ CommandLine (v ∷ vs) rows (omega arith) have)
+  used_texts a [] rows (inr (inr (inl flag))) none have = rw flag.0 (given_texts a.id _ CommandLine a.missing rows flag.1 have)
+  used_texts a (v ∷ vs) rows (inr (inr (inl flag))) none have = rw flag.0 (given_texts a.id _ CommandLine (v ∷ vs) rows (omega arith) have)
+  used_texts a values rows (inr (inr (inr request))) none have =
       let kinds = request_fault (action_of a) again a _ rows request in
       absurd (asks (action_of a) request (kinds ∙ (none_of_both _ _ none).1))
 

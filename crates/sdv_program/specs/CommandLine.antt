@@ -1,11 +1,12 @@
 -- What the words of a call of the program mean: clap reads them by the table of commands.
 use Rattle.std.specs.Prelude.{List, [], ◌∷◌, Option, Some, None, codes, fold, true, option_and_then}
+use Rattle.clap.specs.Lexer.{usize_max}
 use Rattle.clap.specs.Words.{App, Kinds, Row, Rule, Shape, Text, fault_of, new_app}
 use Rattle.clap.specs.Words.{new_rule, subcommand_of, with_rule, with_subcommand}
-use Rattle.clap.specs.declared.builder.action.ArgAction.TheVariants.{SetTrue}
+use Rattle.clap.specs.declared.builder.action.ArgAction.TheVariants.{Append, SetTrue}
 use Rattle.clap.specs.declared.error.kind.ErrorKind.{ErrorKind}
 use Rattle.clap.specs.declared.error.kind.ErrorKind.TheVariants.{OutOfMemory}
-use Rattle.sdv_program.specs.Commands.{Command, Word, commands, required, optional, with_value, flag}
+use Rattle.sdv_program.specs.Commands.{Command, Word, commands, required, optional, several, with_value, repeated, flag}
 use Rattle.sdv_program.specs.Lines.{Line, line_in}
 use Rattle.sdv_program.specs.Requests.{Request}
 use Rattle.sdv_program.specs.Together.{request_of}
@@ -16,7 +17,10 @@ use Rattle.sdv_program.specs.declared.line.LineFault.TheVariants.{Usage, Memory}
 abbrev pub rule_for : Word → Rule
 rule_for (required name) = record (new_rule name) { required = true }
 rule_for (optional name) = new_rule name
+rule_for (several name) =
+    record (new_rule name) { required = true; range = Some (record { start_inclusive = 1; end_inclusive = usize_max }) }
 rule_for (with_value name) = record (new_rule name) { long = Some name }
+rule_for (repeated name) = record (new_rule name) { long = Some name; action = Some Append }
 rule_for (flag name) = record (new_rule name) { long = Some name; action = Some SetTrue }
 
 abbrev pub with_word : App → Word → App

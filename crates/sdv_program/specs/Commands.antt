@@ -4,7 +4,7 @@ use Rattle.std.specs.Str.{bytes_eq}
 use Rattle.clap.specs.Words.{Text}
 use Rattle.sdv_program.specs.declared.table.CommandEntry.{CommandEntry}
 use Rattle.sdv_program.specs.declared.table.Word.{Word as CodeWord}
-use Rattle.sdv_program.specs.declared.table.Word.TheVariants.{Required, Optional, WithValue, Flag}
+use Rattle.sdv_program.specs.declared.table.Word.TheVariants.{Required, Optional, Several, WithValue, Each, Flag}
 
 -- a word behind the name of a command
 pub data Word : Type 0 where
@@ -12,8 +12,12 @@ pub data Word : Type 0 where
   required : (name : Text) → Word
   -- in its place, and may be left out
   optional : (name : Text) → Word
+  -- one or more, in the last place
+  several : (name : Text) → Word
   -- `--NAME VALUE`, and may be left out
   with_value : (name : Text) → Word
+  -- `--NAME VALUE`, and may be left out or stand more than once
+  repeated : (name : Text) → Word
   -- `--NAME`, and may be left out
   flag : (name : Text) → Word
 
@@ -42,6 +46,8 @@ schedule = optional (codes "SCHEDULE")
 abbrev pub commands : List Command
 commands =
     command (codes "frame") (required (codes "INDEX") ∷ required (codes "ARG") ∷ [])
+    ∷ command (codes "verify") (several (codes "FILE") ∷ flag (codes "json") ∷ flag (codes "no-run")
+    ∷ with_value (codes "save") ∷ repeated (codes "allow") ∷ [])
     ∷ command (codes "certify") (script ∷ [])
     ∷ command (codes "check") (script ∷ certificate ∷ [])
     ∷ command (codes "run") (script ∷ certificate ∷ card ∷ image ∷ schedule ∷ with_value (codes "in")
@@ -72,7 +78,9 @@ names_command name = is_some (command_in commands name)
 abbrev pub seen_word : CodeWord → Word
 seen_word (Required name meaning) = required name.now
 seen_word (Optional name meaning) = optional name.now
+seen_word (Several name meaning) = several name.now
 seen_word (WithValue name value meaning) = with_value name.now
+seen_word (Each name value meaning) = repeated name.now
 seen_word (Flag name meaning) = flag name.now
 
 abbrev pub seen_command : CommandEntry → Command

@@ -1,15 +1,15 @@
 -- A LINE of the program: a command with its words, as clap's matches hold them, command by command. What it asks for,
 -- `Together.antt` says.
-use Rattle.std.specs.Prelude.{Bool, false, List, Option, Some, None, codes, if◌then◌else◌, option_and_then, option_map}
+use Rattle.std.specs.Prelude.{Bool, false, List, [], Option, Some, None, codes, if◌then◌else◌, option_and_then, option_map, unwrap_or}
 use Rattle.std.specs.Str.{bytes_eq}
-use Rattle.clap.specs.Words.{Row, Text, first_of}
+use Rattle.clap.specs.Words.{Row, Text, all_of, first_of}
 use Rattle.sdv_program.specs.declared.line.Line.{Line as CodeLine}
-use Rattle.sdv_program.specs.declared.line.Line.TheVariants.{Frame, Certify, Check, Run, Batch, Explain, Emit, Audit, Drive, Card, Review, Try, Refute}
+use Rattle.sdv_program.specs.declared.line.Line.TheVariants.{Verify, Frame, Certify, Check, Run, Batch, Explain, Emit, Audit, Drive, Card, Review, Try, Refute}
 use Rattle.sdv_program.specs.declared.line.AuditLine.{AuditLine}
 use Rattle.sdv_program.specs.declared.line.CardLine.{CardLine}
 use Rattle.sdv_program.specs.declared.line.ExplainLine.{ExplainLine}
 use Rattle.sdv_program.specs.declared.line.TryLine.{TryLine}
-use Rattle.sdv_program.specs.Requests.{Request, frame, certify, check, run, batch, drive, emit, review, refute, drive_names_of, emit_names_of, names_of, refute_names_of}
+use Rattle.sdv_program.specs.Requests.{Request, verify, verify_names_of, frame, certify, check, run, batch, drive, emit, review, refute, drive_names_of, emit_names_of, names_of, refute_names_of}
 
 -- the words of an explanation or of a drawing
 pub record ExplainTexts : Type 0 where
@@ -74,6 +74,19 @@ is_true (Some value) = bytes_eq value (codes "true")
 
 abbrev pub is_set : (name : Text) → List Row → Bool
 is_set name rows = is_true (first_of name rows)
+
+-- all words of this name, in their order
+abbrev pub words_of : (name : Text) → List Row → List Text
+words_of name rows = unwrap_or (all_of name rows) []
+
+abbrev pub by_verify_words : List Row → Line
+by_verify_words rows = always (verify (record {
+  files = words_of (codes "FILE") rows;
+  allowed = words_of (codes "allow") rows;
+  json = is_set (codes "json") rows;
+  no_run = is_set (codes "no-run") rows;
+  save = first_of (codes "save") rows;
+}))
 
 abbrev pub by_run_words : List Row → Option Line
 by_run_words rows =
@@ -164,22 +177,25 @@ by_refute_words rows = by_script (λ script. refute (record {
 })) rows
 
 -- the line in a command's name and the rows of its words
-abbrev pub line_in : Text × List Row → Option Line
-line_in used =
-    if bytes_eq used.0 (codes "frame") then by_two_words (codes "INDEX") (codes "ARG") frame used.1
-    else if bytes_eq used.0 (codes "certify") then by_script certify used.1
-    else if bytes_eq used.0 (codes "check") then by_two_words (codes "SCRIPT") (codes "CERT") check used.1
-    else if bytes_eq used.0 (codes "run") then by_run_words used.1
-    else if bytes_eq used.0 (codes "batch") then by_two_words (codes "KIND") (codes "REQUESTS") batch used.1
-    else if bytes_eq used.0 (codes "explain") then by_explain_words used.1
-    else if bytes_eq used.0 (codes "emit") then by_emit_words used.1
-    else if bytes_eq used.0 (codes "audit") then by_audit_words used.1
-    else if bytes_eq used.0 (codes "drive") then by_drive_words used.1
-    else if bytes_eq used.0 (codes "card") then by_card_words used.1
-    else if bytes_eq used.0 (codes "review") then by_review_words used.1
-    else if bytes_eq used.0 (codes "try") then by_try_words used.1
-    else if bytes_eq used.0 (codes "refute") then by_refute_words used.1
+abbrev pub other_line_in : (name : Text) → List Row → Option Line
+other_line_in name rows =
+    if bytes_eq name (codes "frame") then by_two_words (codes "INDEX") (codes "ARG") frame rows
+    else if bytes_eq name (codes "certify") then by_script certify rows
+    else if bytes_eq name (codes "check") then by_two_words (codes "SCRIPT") (codes "CERT") check rows
+    else if bytes_eq name (codes "run") then by_run_words rows
+    else if bytes_eq name (codes "batch") then by_two_words (codes "KIND") (codes "REQUESTS") batch rows
+    else if bytes_eq name (codes "explain") then by_explain_words rows
+    else if bytes_eq name (codes "emit") then by_emit_words rows
+    else if bytes_eq name (codes "audit") then by_audit_words rows
+    else if bytes_eq name (codes "drive") then by_drive_words rows
+    else if bytes_eq name (codes "card") then by_card_words rows
+    else if bytes_eq name (codes "review") then by_review_words rows
+    else if bytes_eq name (codes "try") then by_try_words rows
+    else if bytes_eq name (codes "refute") then by_refute_words rows
     else None
+
+abbrev pub line_in : Text × List Row → Option Line
+line_in used = if bytes_eq used.0 (codes "verify") then Some (by_verify_words used.1) else other_line_in used.0 used.1
 
 -- THE CODE'S LINE, with references to the words
 
@@ -224,6 +240,7 @@ try_line_of words = record {
 }
 
 abbrev pub seen_line : CodeLine → Line
+seen_line (Verify words) = always (verify (verify_names_of words))
 seen_line (Frame index argument) = always (frame index.now argument.now)
 seen_line (Certify script) = always (certify script.now)
 seen_line (Check script certificate) = always (check script.now certificate.now)

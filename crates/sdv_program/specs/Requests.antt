@@ -1,8 +1,10 @@
 -- What is asked of the program: a REQUEST, with the texts of its words.
-use Rattle.std.specs.Prelude.{Bool, Option, option_map}
+use Rattle.std.specs.Prelude.{Bool, List, Option, option_map}
+use Rattle.clap.specs.Walk.{texts}
 use Rattle.clap.specs.Words.{Text}
 use Rattle.sdv_program.specs.declared.request.Request.{Request as CodeRequest}
-use Rattle.sdv_program.specs.declared.request.Request.TheVariants.{Frame, Certify, Check, Run, Batch, Explain, Graph, Emit, Audit, Decode, Drive, Card, Describe, Review, Try, Sweep, Refute}
+use Rattle.sdv_program.specs.declared.request.Request.TheVariants.{Verify, Frame, Certify, Check, Run, Batch, Explain, Graph, Emit, Audit, Decode, Drive, Card, Describe, Review, Try, Sweep, Refute}
+use Rattle.sdv_program.specs.declared.line.VerifyWords.{VerifyWords}
 use Rattle.sdv_program.specs.declared.line.RunFiles.{RunFiles}
 use Rattle.sdv_program.specs.declared.line.EmitWords.{EmitWords}
 use Rattle.sdv_program.specs.declared.line.DriveFiles.{DriveFiles}
@@ -14,6 +16,15 @@ use Rattle.sdv_program.specs.declared.request.GraphWords.{GraphWords}
 use Rattle.sdv_program.specs.declared.request.TryFiles.{TryFiles}
 use Rattle.sdv_program.specs.declared.request.SweepFiles.{SweepFiles}
 use Rattle.sdv_program.specs.declared.request.DecodeWords.{DecodeWords}
+
+-- the files of scripts, by their names, the kinds of findings that are left out, the form of what is printed, whether runs are
+-- looked for, and the folder that takes what they need
+pub record VerifyNames : Type 0 where
+  pub files : List Text
+  pub allowed : List Text
+  pub json : Bool
+  pub no_run : Bool
+  pub save : Option Text
 
 -- the files of a run, by their names
 pub record RunNames : Type 0 where
@@ -101,6 +112,7 @@ pub record DecodeNames : Type 0 where
   pub svg : Bool
 
 pub data Request : Type 0 where
+  verify : VerifyNames → Request
   frame : (index argument : Text) → Request
   certify : (script : Text) → Request
   check : (script certificate : Text) → Request
@@ -122,6 +134,15 @@ pub data Request : Type 0 where
   refute : RefuteNames → Request
 
 -- THE CODE'S REQUEST, with references to the words
+
+abbrev pub verify_names_of : VerifyWords → VerifyNames
+verify_names_of words = record {
+  files = texts words.files.items;
+  allowed = texts words.allowed.items;
+  json = words.json;
+  no_run = words.no_run;
+  save = option_map (λ folder. folder.now) words.save;
+}
 
 abbrev pub names_of : RunFiles → RunNames
 names_of files = record {
@@ -211,6 +232,7 @@ decode_names_of words = record {
 }
 
 abbrev pub seen : CodeRequest → Request
+seen (Verify words) = verify (verify_names_of words)
 seen (Frame index argument) = frame index.now argument.now
 seen (Certify script) = certify script.now
 seen (Check script certificate) = check script.now certificate.now

@@ -57,7 +57,9 @@ fn arg_of<'a>(alloc: Global, word: Word) -> Arg<'a>
     match word {
         Word::Required(name, _) => Arg::new(alloc, name).required(true),
         Word::Optional(name, _) => Arg::new(alloc, name),
+        Word::Several(name, _) => Arg::new(alloc, name).required(true).num_args(1..),
         Word::WithValue(name, _, _) => Arg::new(alloc, name).long(name),
+        Word::Each(name, _, _) => Arg::new(alloc, name).long(name).action(ArgAction::Append),
         Word::Flag(name, _) => Arg::new(alloc, name).long(name).action(ArgAction::SetTrue),
     }
 }

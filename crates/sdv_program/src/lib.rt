@@ -39,7 +39,7 @@ pub use file::{MachineFiles, Store, bytes_in, bytes_within, text_in};
 pub use left::leave;
 pub use line::{
     AuditLine, CardLine, DriveFiles, EmitWords, ExplainLine, Line, LineFault, RefuteFiles,
-    RunFiles, TryLine, line_of,
+    RunFiles, TryLine, VerifyWords, line_of,
 };
 pub use mistake::{USAGE, usage_line};
 pub use output::print_text;

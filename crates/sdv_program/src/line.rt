@@ -5,7 +5,7 @@ ghost use Rattle.clap.specs.Words.{fault_of, first_of, found_of, kind_of, rows_o
 ghost use Rattle.clap.specs.Walk.{texts};
 ghost use Rattle.sdv_program.specs.CommandLine.{command_line, meaning_of};
 ghost use Rattle.sdv_program.specs.Lines.{by_audit_words, by_card_words, by_explain_words, by_try_words, is_set, line_in, seen_line};
-ghost use Rattle.sdv_program.specs.Lines.{by_drive_words, by_emit_words, by_refute_words, by_review_words, by_run_words, by_script, by_two_words};
+ghost use Rattle.sdv_program.specs.Lines.{by_drive_words, by_emit_words, by_refute_words, by_review_words, by_run_words, by_script, by_two_words, by_verify_words, other_line_in, words_of};
 ghost use Rattle.sdv_program.specs.Requests.{batch, certify, check, frame};
 
 use crate::clap_command::program_command;
@@ -15,8 +15,10 @@ use std::alloc::{AllocError, Global};
 use thiserror::Error;
 
 /// A line of the program: a command, with the texts of its words.
-#[derive(Clone, Copy)]
+#[derive(Drop)]
 pub enum Line<'a> {
+    /// The verdict on scripts.
+    Verify(VerifyWords<'a>),
     /// The frame of a command.
     Frame {
         index: &'a str,
@@ -57,6 +59,21 @@ pub enum Line<'a> {
     Try(TryLine<'a>),
     /// The search for a run that refutes a script.
     Refute(RefuteFiles<'a>),
+}
+
+/// The words of a verdict on scripts.
+#[derive(Drop)]
+pub struct VerifyWords<'a> {
+    /// The files of the scripts.
+    pub files: Vec<&'a str>,
+    /// The kinds of findings that are left out.
+    pub allowed: Vec<&'a str>,
+    /// Objects of JSON are printed.
+    pub json: bool,
+    /// No run is looked for that breaks a refused script.
+    pub no_run: bool,
+    /// The folder that takes the card and the schedule of each run. Without it they are dropped.
+    pub save: Option<&'a str>,
 }
 
 /// The names of the files of a run over lines.
@@ -212,13 +229,32 @@ pub fn line_of<'a>(alloc: Global, words: &'a [&'a str]) -> Result<Line<'a>, Line
         → IfErr result (λ fault. fault ≡ LineFault.Memory) }
 {
     let matches = program_command(alloc)?.try_get_matches_from(words)?;
-    line_in(&matches).ok_or(LineFault::Usage)
+    let line = line_in(alloc, &matches)?;
+    line.ok_or(LineFault::Usage)
 }
 
-fn line_in<'a>(matches: &ArgMatches<'a>) -> Option<Line<'a>>
-    ensures { option_map seen_line result ≡ option_and_then line_in (subcommand_rows_of matches.now) }
+/// The line in what clap matched.
+///
+/// # Errors
+///
+/// Memory was refused.
+fn line_in<'a>(alloc: Global, matches: &ArgMatches<'a>) -> Result<Option<Line<'a>>, AllocError>
+    ensures { IfOk result (λ line. option_map seen_line line ≡ option_and_then line_in (subcommand_rows_of matches.now)) }
 {
-    match matches.subcommand()? {
+    let Some((name, matches)) = matches.subcommand() else {
+        return Ok(None);
+    };
+    match name {
+        "verify" => verify_in(alloc, matches),
+        _ => Ok(other_line_in(name, matches)),
+    }
+}
+
+/// The line of a command that takes each word once.
+fn other_line_in<'a>(name: &str, matches: &ArgMatches<'a>) -> Option<Line<'a>>
+    ensures { option_map seen_line result ≡ other_line_in name.now (rows_of (found_of matches.now)) }
+{
+    match (name, matches) {
         ("frame", matches) => frame_in(matches),
         ("certify", matches) => certify_in(matches),
         ("check", matches) => check_in(matches),
@@ -251,6 +287,34 @@ fn is_set(matches: &ArgMatches<'_>, name: &str) -> bool
         Some(value) => value == "true",
         None => false,
     }
+}
+
+/// The words of this name, in their order.
+fn words_in<'a>(
+    alloc: Global,
+    matches: &ArgMatches<'a>,
+    name: &str,
+) -> Result<Vec<&'a str>, AllocError>
+    ensures { IfOk result (λ words. texts words.items ≡ words_of name.now (rows_of (found_of matches.now))) }
+{
+    match matches.get_raw(name) {
+        Some(words) => Vec::from_slice(alloc, words),
+        None => Ok(Vec::new(alloc)),
+    }
+}
+
+fn verify_in<'a>(alloc: Global, matches: &ArgMatches<'a>) -> Result<Option<Line<'a>>, AllocError>
+    ensures { IfOk result (λ line. option_map seen_line line ≡ Some (by_verify_words (rows_of (found_of matches.now)))) }
+{
+    let files = words_in(alloc, matches, "FILE")?;
+    let allowed = words_in(alloc, matches, "allow")?;
+    Ok(Some(Line::Verify(VerifyWords {
+        files,
+        allowed,
+        json: is_set(matches, "json"),
+        no_run: is_set(matches, "no-run"),
+        save: word_in(matches, "save"),
+    })))
 }
 
 fn frame_in<'a>(matches: &ArgMatches<'a>) -> Option<Line<'a>>

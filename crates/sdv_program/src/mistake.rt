@@ -70,9 +70,14 @@ fn mistake_in<'a>(entry: &CommandEntry, words: &[&'a str]) -> Pieces<'a> {
     }
     let words = before_dashes(words);
     match repeated(words) {
-        Some(word) => (word, " stands twice", "", ""),
-        None => (clash(entry.name, words), "", "", ""),
+        Some(word) if !may_repeat(entry.words, word) => (word, " stands twice", "", ""),
+        _ => (clash(entry.name, words), "", "", ""),
     }
+}
+
+/// The option of a command that a word names may stand more than once.
+fn may_repeat(words: &'static [Word], word: &str) -> bool {
+    matches!(option_in(words, word), Some(Word::Each(..)))
 }
 
 /// What is wrong with a word for itself, or which is missing.
@@ -80,13 +85,18 @@ fn wrong_word<'a>(entry: &CommandEntry, words: &[&'a str]) -> Option<Pieces<'a>>
     let mut place: usize = 0;
     let mut takes_options = true;
     let mut waiting = None;
+    let mut has_several = false;
     for word in words {
         if !takes_options || !is_option(word) {
             if waiting.take().is_none() {
                 if let Some(wrong) = misfit(entry.words.get(place), word) {
                     return Some(wrong);
                 }
-                place = place.saturating_add(1);
+                if !matches!(entry.words.get(place), Some(Word::Several(..))) {
+                    place = place.saturating_add(1);
+                } else {
+                    has_several = true;
+                }
             }
             continue;
         }
@@ -95,24 +105,29 @@ fn wrong_word<'a>(entry: &CommandEntry, words: &[&'a str]) -> Option<Pieces<'a>>
         }
         match option_in(entry.words, word) {
             None if *word == "--" => takes_options = false,
-            Some(Word::WithValue(name, value, _)) if !has_value(word) => waiting = Some((
-                name, value,
-            )),
+            Some(Word::WithValue(name, value, _) | Word::Each(name, value, _))
+                if !has_value(word) => waiting = Some((name, value)),
             Some(Word::Flag(..)) if !has_value(word) => {}
-            Some(Word::WithValue(..)) => {}
+            Some(Word::WithValue(..) | Word::Each(..)) => {}
             _ => return Some((word, " is no option", "", "")),
         }
     }
     match (waiting, entry.words.get(place)) {
         (Some((name, value)), _) => Some(("--", name, " needs ", value)),
-        (None, Some(Word::Required(name, _))) => Some((name, " is missing", "", "")),
+        (None, Some(Word::Required(name, _) | Word::Several(name, _))) if !has_several => Some((
+            name,
+            " is missing",
+            "",
+            "",
+        )),
         _ => None,
     }
 }
 
 /// Why a word does not fit in its place.
 fn misfit<'a>(place: Option<&Word>, word: &'a str) -> Option<Pieces<'a>> {
-    let Some(Word::Required(name, _) | Word::Optional(name, _)) = place else {
+    let Some(Word::Required(name, _) | Word::Optional(name, _) | Word::Several(name, _)) = place
+    else {
         return Some((word, " is one word too many", "", ""));
     };
     let (is_fit, range) = match *name {
@@ -203,7 +218,7 @@ fn has_value(word: &str) -> bool {
 fn option_in(words: &'static [Word], word: &str) -> Option<&'static Word> {
     let name = option_name(word)?;
     for word in words {
-        if let Word::WithValue(of, _, _) | Word::Flag(of, _) = word
+        if let Word::WithValue(of, _, _) | Word::Each(of, _, _) | Word::Flag(of, _) = word
             && of.as_bytes() == name
         {
             return Some(word);

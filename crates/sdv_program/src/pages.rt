@@ -86,8 +86,12 @@ pub fn command_page(alloc: Global, entry: &CommandEntry) -> Result<Vec<u8>, Allo
 
 fn put_meaning(page: &mut Vec<u8>, word: Word) -> Result<(), AllocError> {
     let (front, name, value, meaning) = match word {
-        Word::Required(name, meaning) | Word::Optional(name, meaning) => ("", name, "", meaning),
-        Word::WithValue(name, value, meaning) => ("--", name, value, meaning),
+        Word::Required(name, meaning)
+        | Word::Optional(name, meaning)
+        | Word::Several(name, meaning) => ("", name, "", meaning),
+        Word::WithValue(name, value, meaning) | Word::Each(name, value, meaning) => {
+            ("--", name, value, meaning)
+        }
         Word::Flag(name, meaning) => ("--", name, "", meaning),
     };
     let between = if value.is_empty() { "" } else { " " };
@@ -104,7 +108,9 @@ pub(crate) fn put_form(page: &mut Vec<u8>, entry: &CommandEntry) -> Result<(), A
         match *word {
             Word::Required(name, _) => put_all(page, &[" ", name])?,
             Word::Optional(name, _) => put_all(page, &[" [", name, "]"])?,
+            Word::Several(name, _) => put_all(page, &[" ", name, ".."])?,
             Word::WithValue(name, value, _) => put_all(page, &[" [--", name, " ", value, "]"])?,
+            Word::Each(name, value, _) => put_all(page, &[" [--", name, " ", value, "].."])?,
             Word::Flag(name, _) => put_all(page, &[" [--", name, "]"])?,
         }
     }

@@ -8,13 +8,15 @@ ghost use Rattle.sdv_program.specs.Together.{audit_request, card_request, explai
 
 use crate::line::{
     AuditLine, CardLine, DriveFiles, EmitWords, ExplainLine, Line, LineFault, RefuteFiles,
-    RunFiles, TryLine, line_of,
+    RunFiles, TryLine, VerifyWords, line_of,
 };
 use std::alloc::Global;
 
 /// What is asked of the program.
-#[derive(Clone, Copy)]
+#[derive(Drop)]
 pub enum Request<'a> {
+    /// The verdict on the scripts in these files.
+    Verify(VerifyWords<'a>),
     /// The frame of the command with this index and argument.
     Frame {
         index: &'a str,
@@ -175,6 +177,7 @@ pub fn request_in<'a>(line: Line<'a>) -> Option<Request<'a>>
 {
     match line {
         Line::Frame { index, argument } => Some(Request::Frame { index, argument }),
+        Line::Verify(words) => Some(Request::Verify(words)),
         Line::Certify { script } => Some(Request::Certify { script }),
         Line::Check {
             script,

@@ -7,8 +7,12 @@ pub enum Word {
     Required(&'static str, &'static str),
     /// A word in its place, which may be left out.
     Optional(&'static str, &'static str),
+    /// One word or more, in the last place.
+    Several(&'static str, &'static str),
     /// `--NAME VALUE`, which may be left out.
     WithValue(&'static str, &'static str, &'static str),
+    /// `--NAME VALUE`, which may be left out or stand more than once.
+    Each(&'static str, &'static str, &'static str),
     /// `--NAME`, which may be left out.
     Flag(&'static str, &'static str),
 }
@@ -55,7 +59,7 @@ const KIND: Word = Word::Required("KIND", "sd or emmc");
 const JSON: Word = Word::Flag("json", "prints an object of JSON a line");
 
 /// The commands of the program, in the order in which `--help` names them.
-pub static COMMANDS: [CommandEntry; 13] = [
+pub static COMMANDS: [CommandEntry; 14] = [
     CommandEntry {
         name: "frame",
         words: &[
@@ -63,6 +67,25 @@ pub static COMMANDS: [CommandEntry; 13] = [
             Word::Required("ARG", "its argument, from 0 to 4294967295"),
         ],
         help: "prints the frame of a command",
+    },
+    CommandEntry {
+        name: "verify",
+        words: &[
+            Word::Several("FILE", "files with scripts"),
+            JSON,
+            Word::Flag("no-run", "looks for no run that breaks a refused script"),
+            Word::WithValue(
+                "save",
+                "DIR",
+                "the folder that takes the card and the schedule of each run",
+            ),
+            Word::Each(
+                "allow",
+                "KIND",
+                "a kind of warnings that are left out, as a comment # allow: KIND leaves out those of its line",
+            ),
+        ],
+        help: "prints all that is wrong with scripts, and what accepted ones leave open",
     },
     CommandEntry {
         name: "certify",

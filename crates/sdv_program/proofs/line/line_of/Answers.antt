@@ -31,20 +31,20 @@ returns-in_err-matches-clause-usage c = λ refused.
     c.in_err-matches.ensures.kinds becomes
 
 -- clap finds no fault, and the line in the matches is what the words mean
-no_fault : (c : goal.Joined-matches) → fault_of command_line (texts c.args.words.now) ≡ []
+no_fault : (c : goal.Joined-matches-2) → fault_of command_line (texts c.args.words.now) ≡ []
 no_fault c = no_fault-parsed (app_of c.in_ok-program_command.field-0) (texts c.args.words.now) c.in_ok-program_command.ensures c.in_ok-matches.ensures.kinds
 
-meaning : (c : goal.Joined-matches) → meaning_of (texts c.args.words.now) ≡ option_map seen_line c.line_in.result
+meaning : (c : goal.Joined-matches-2) → meaning_of (texts c.args.words.now) ≡ option_map seen_line c.in_ok-line.line
 meaning c =
     let matches = c.in_ok-matches.matches in
     meaning-parsed (app_of c.in_ok-program_command.field-0) (texts c.args.words.now) (rows_of (found_of matches)) (subcommand_rows_of matches)
-    c.in_ok-program_command.ensures (no_fault c) c.in_ok-matches.ensures.matches ∙ sym c.line_in.ensures
+    c.in_ok-program_command.ensures (no_fault c) c.in_ok-matches.ensures.matches ∙ sym c.in_ok-line.ensures
 
-line : (c : goal.Joined-matches) → (l : Line) × (c.ok_or.result ≡ Ok l)
-line c = request_given (texts c.args.words.now) c.line_in.result _ c.ok_or.result (no_fault c) (meaning c) c.ok_or.ensures.value
+line : (c : goal.Joined-matches-2) → (l : Line) × (c.ok_or.result ≡ Ok l)
+line c = request_given (texts c.args.words.now) c.in_ok-line.line _ c.ok_or.result (no_fault c) (meaning c) c.ok_or.ensures.value
 
 pub returns-clause-ok : goal.returns-clause-ok
-returns-clause-ok c = line_of_meaning (texts c.args.words.now) c.line_in.result _ c.ok_or.result (meaning c) c.ok_or.ensures.value
+returns-clause-ok c = line_of_meaning (texts c.args.words.now) c.in_ok-line.line _ c.ok_or.result (meaning c) c.ok_or.ensures.value
 
 pub returns-clause-usage : goal.returns-clause-usage
 returns-clause-usage c = λ refused. let l = line c in let both = sym l.1 ∙ refused in cc

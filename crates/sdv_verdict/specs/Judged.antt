@@ -1,0 +1,37 @@
+-- THE VERDICT on a script: it is accepted, with the bound of the checker and what a review finds; or it is refused, with every
+-- point that fails.
+-- This project's own.
+use Rattle.std.specs.Prelude.{◌≡◌}
+use Rattle.sdv_script.specs.declared.script.Script.{Script}
+use Rattle.sdv_graph.specs.Graph.{Graph}
+use Rattle.sdv_facts.specs.declared.certificate.Certificate.{Certificate}
+use Rattle.sdv_facts.specs.Bounds.{bound_of}
+use Rattle.sdv_facts.specs.Closed.{Closed}
+use Rattle.sdv_certify.specs.declared.fault.CertifyFault.{CertifyFault}
+use Rattle.sdv_certify.specs.declared.fault.CertifyFault.TheVariants as certifies
+use Rattle.sdv_certify.specs.Assembled.{CertificateOf, RefusedFor, SurveyOf}
+use Rattle.sdv_certify.specs.Refusal.{IsOfPoint}
+use Rattle.sdv_explain.specs.Failing.{AreFailures}
+use Rattle.sdv_review.specs.Findings.{findings_of}
+use Rattle.sdv_review.specs.Writes.{WritesFound}
+use Rattle.sdv_verdict.specs.declared.judging.Verdict.{Verdict}
+use Rattle.sdv_verdict.specs.declared.judging.Verdict.TheVariants.{TooMany, Refused, Accepted}
+
+-- each point that fails is told, by what is known of the points
+abbrev pub IsRefusal : Graph → CertifyFault → Certificate → Verdict → Type 0
+IsRefusal g fault known (Refused told failures all) = (told ≡ fault) × (all ≡ known) × AreFailures g known.points failures.items
+IsRefusal g fault known verdict = ⊥
+
+-- the certificate is closed; its bound is told, and what the review of it finds
+abbrev pub IsAcceptance : Graph → Certificate → Verdict → Type 0
+IsAcceptance g known (Accepted bound found writes) = Closed g known.points × (bound ≡ bound_of g known.points)
+    × (found.items ≡ findings_of g known.points) × WritesFound g known.points writes.items
+IsAcceptance g known verdict = ⊥
+
+-- of a script and its graph
+abbrev pub IsVerdict : Script → Graph → Verdict → Type 0
+IsVerdict s g TooMany = RefusedFor s certifies.TooMany
+IsVerdict s g (Refused fault failures known) =
+    IsOfPoint fault × RefusedFor s fault × SurveyOf s known.points × AreFailures g known.points failures.items
+IsVerdict s g (Accepted bound found writes) = (known : Certificate) × CertificateOf s known.points
+    × IsAcceptance g known (Accepted bound found writes)

@@ -1,0 +1,94 @@
+//! The verdict on a text.
+
+ghost use Rattle.std.specs.Prelude.{IfOk};
+ghost use Rattle.sdv_script.specs.OneGraph.{IsGraphOfScript};
+ghost use Rattle.sdv_script.specs.Shown.{shown};
+ghost use Rattle.sdv_facts.specs.Closed.{Closed};
+ghost use Rattle.sdv_verdict.specs.Judged.{IsAcceptance, IsRefusal, IsVerdict};
+
+use sdv_certify::{CertifyFault, ScriptSurvey, survey};
+use sdv_check::check;
+use sdv_explain::{Failure, failures_of};
+use sdv_facts::Certificate;
+use sdv_graph::Graph;
+use sdv_review::{Finding, find, find_writes};
+use sdv_script::Script;
+use std::alloc::{AllocError, Global};
+
+/// What is said of a script.
+#[derive(Drop)]
+pub enum Verdict {
+    /// It has no certificate, since a run may send more than 2^40 commands or its points have more than 65,536 shapes.
+    TooMany,
+    /// It has none, since a clause fails at a point.
+    Refused {
+        /// What `certify` answers.
+        fault: CertifyFault,
+        /// How each point fails that does, in the order of the points.
+        failures: Vec<Failure>,
+        /// What is known at each point.
+        known: Certificate,
+    },
+    /// It has one.
+    Accepted {
+        /// A run sends at most so many commands.
+        bound: u64,
+        /// What a review finds of points and of names.
+        found: Vec<Finding>,
+        /// What it finds of writes and erases, and of partitions.
+        writes: Vec<Finding>,
+    },
+}
+
+/// What is said of a script, by the survey of its graph and by a review.
+///
+/// # Errors
+///
+/// Memory was refused.
+pub fn judge(alloc: Global, script: &Script<'_>, graph: &Graph<'_>) -> Result<Verdict, AllocError>
+    requires graph { IsGraphOfScript (shown script.now) graph.now }
+    ensures { IfOk result (IsVerdict script.now graph.now) }
+{
+    match survey(alloc, script, graph) {
+        Ok(ScriptSurvey { known, refusal }) => match refusal {
+            Some(fault) => refused(alloc, graph, fault, known),
+            None => accepted(alloc, graph, &known),
+        },
+        Err(CertifyFault::Memory) => Err(AllocError),
+        Err(_) => Ok(Verdict::TooMany),
+    }
+}
+
+/// How a script is refused, by what is known at its points.
+fn refused(
+    alloc: Global,
+    graph: &Graph<'_>,
+    fault: CertifyFault,
+    known: Certificate,
+) -> Result<Verdict, AllocError>
+    ensures { IfOk result (IsRefusal graph.now fault known) }
+{
+    let failures = failures_of(alloc, graph, &known)?;
+    Ok(Verdict::Refused {
+        fault,
+        failures,
+        known,
+    })
+}
+
+/// The bound of an accepted script, and what a review finds of it.
+fn accepted(alloc: Global, graph: &Graph<'_>, known: &Certificate) -> Result<Verdict, AllocError>
+    requires closed { Closed graph.now known.now.points }
+    ensures { IfOk result (IsAcceptance graph.now known.now) }
+{
+    let found = find(alloc, graph, known)?;
+    let writes = find_writes(alloc, graph, known)?;
+    match check(graph, known) {
+        Ok(bound) => Ok(Verdict::Accepted {
+            bound,
+            found,
+            writes,
+        }),
+        Err(_) => unreachable!(),
+    }
+}

@@ -1,0 +1,378 @@
+//! A verdict as lines of text, or as objects of JSON.
+
+ghost use Rattle.std.specs.Prelude.{◌≡◌, ◌≢◌, IfOk, IfSome, None, map};
+ghost use Rattle.sdv_check.specs.Verified.{IsNoScript};
+ghost use Rattle.sdv_script.specs.OneGraph.{IsGraphOfScript};
+ghost use Rattle.sdv_script.specs.Script.{IsScript};
+ghost use Rattle.sdv_script.specs.Shown.{shown};
+ghost use Rattle.sdv_search.specs.Refuted.{IsRefutation};
+ghost use Rattle.sdv_verdict.specs.Told.{IsTold, IsToldByVerdict};
+
+use crate::allowed::Allowed;
+use crate::judging::{Verdict, judge};
+use crate::remark::{Remark, Severity};
+use crate::run::{RunTold, Runs, run_told, text_of};
+use crate::telling::{Subject, fault_remarks, remarks_of, unread_remark};
+use sdv_explain::faults_of;
+use sdv_graph::Graph;
+use sdv_script::{FaultKind, Script, ScriptFault, parse};
+use sdv_search::{Refutation, brief_run};
+use sdv_telling::{Text, put, put_all, put_number, put_numbered};
+use serde_json::{Value, json};
+use std::alloc::{AllocError, Global};
+
+/// The form of what is told.
+#[derive(Clone, Copy, PartialEq, Eq)]
+pub enum Form {
+    /// A line for each remark, as compilers print them, and one for the script.
+    Lines,
+    /// An object of JSON a line.
+    Json,
+}
+
+/// What is told of a script.
+#[derive(Drop)]
+pub struct Told {
+    /// The lines or the objects.
+    pub page: Text,
+    /// The script is accepted, and nothing of its review counts.
+    pub is_clear: bool,
+    /// A run that refutes the script, if one was sought and found.
+    pub run: Option<Refutation>,
+}
+
+/// What is told of a script by the name of its file: each fault of a text that is none, each statement that is refused, and what
+/// a review finds and is not allowed; and at last the verdict.
+///
+/// # Errors
+///
+/// Memory was refused.
+pub fn tell(
+    alloc: Global,
+    file: &str,
+    allowed: Allowed<'_>,
+    runs: Runs<'_>,
+    form: Form,
+) -> Result<Told, AllocError>
+    ensures told { IfOk result (λ told. IsTold allowed.entry.text.now (map (λ kind. kind.now) allowed.entry.kinds.now)
+        told.is_clear) }
+    ensures run { IfOk result (λ told. IfSome told.run (IsRefutation allowed.entry.text.now)) }
+{
+    match parse(alloc, allowed.text) {
+        Ok(script) => tell_script(alloc, file, &script, allowed, runs, form),
+        Err(fault) => tell_faults(alloc, file, allowed, fault, form),
+    }
+}
+
+/// What is told of a file that cannot be used.
+///
+/// # Errors
+///
+/// Memory was refused.
+pub fn tell_unread(alloc: Global, file: &str, form: Form) -> Result<Text, AllocError> {
+    let mut remarks = Vec::new(alloc);
+    remarks.push(unread_remark(alloc)?)?;
+    let said = Said {
+        file,
+        remarks: &remarks,
+        run: &None,
+        outcome: Outcome::NotRead,
+    };
+    page_of(alloc, said, form)
+}
+
+/// What is told of a text that is no script.
+fn tell_faults(
+    alloc: Global,
+    file: &str,
+    allowed: Allowed<'_>,
+    fault: ScriptFault,
+    form: Form,
+) -> Result<Told, AllocError>
+    requires { fault.kind ≢ FaultKind.Memory → IsNoScript allowed.text.now }
+    ensures run { IfOk result (λ told. told.run ≡ None) }
+    ensures told { IfOk result (λ told. IsTold allowed.entry.text.now (map (λ kind. kind.now) allowed.entry.kinds.now)
+        told.is_clear) }
+{
+    if fault.kind == FaultKind::Memory {
+        return Err(AllocError);
+    }
+    let remarks = fault_remarks(alloc, faults_of(alloc, allowed.text, fault)?)?;
+    let said = Said {
+        file,
+        remarks: &remarks,
+        run: &None,
+        outcome: Outcome::NoScript,
+    };
+    Ok(Told {
+        page: page_of(alloc, said, form)?,
+        is_clear: false,
+        run: None,
+    })
+}
+
+/// What is told of a script.
+fn tell_script(
+    alloc: Global,
+    file: &str,
+    script: &Script<'_>,
+    allowed: Allowed<'_>,
+    runs: Runs<'_>,
+    form: Form,
+) -> Result<Told, AllocError>
+    requires script { IsScript (shown script.now) }
+    requires text { (shown script.now).text ≡ allowed.text.now }
+    ensures told { IfOk result (λ told. IsToldByVerdict allowed.entry.text.now
+        (map (λ kind. kind.now) allowed.entry.kinds.now) told.is_clear) }
+    ensures run { IfOk result (λ told. IfSome told.run (IsRefutation allowed.entry.text.now)) }
+{
+    let Ok(graph) = script.graph(alloc) else {
+        return Err(AllocError);
+    };
+    let verdict = judge(alloc, script, &graph)?;
+    let is_clear = allowed.is_clear(&graph, &verdict);
+    let run = if runs.are_sought() {
+        run_against(alloc, script, &graph, &verdict)?
+    } else {
+        None
+    };
+    let subject = Subject {
+        allowed,
+        graph: &graph,
+    };
+    let remarks = remarks_of(alloc, subject, &verdict)?;
+    let told = match &run {
+        Some(run) => Some(run_told(alloc, file, &graph, run, runs, &remarks)?),
+        None => None,
+    };
+    let said = Said {
+        file,
+        remarks: &remarks,
+        run: &told,
+        outcome: outcome_of(&verdict),
+    };
+    let page = page_of(alloc, said, form)?;
+    Ok(Told {
+        page,
+        is_clear,
+        run,
+    })
+}
+
+/// A run that refutes a script, if it is refused at a point and a run is found.
+fn run_against(
+    alloc: Global,
+    script: &Script<'_>,
+    graph: &Graph<'_>,
+    verdict: &Verdict,
+) -> Result<Option<Refutation>, AllocError>
+    requires script { IsScript (shown script.now) }
+    requires graph { IsGraphOfScript (shown script.now) graph.now }
+    ensures { IfOk result (λ run. IfSome run (IsRefutation (shown script.now).text)) }
+{
+    match verdict {
+        Verdict::Refused { .. } => brief_run(alloc, script, graph),
+        Verdict::TooMany | Verdict::Accepted { .. } => Ok(None),
+    }
+}
+
+/// How a script is judged.
+#[derive(Clone, Copy)]
+enum Outcome {
+    NotRead,
+    NoScript,
+    Refused,
+    Accepted(u64),
+}
+
+fn outcome_of(verdict: &Verdict) -> Outcome {
+    match verdict {
+        Verdict::Accepted { bound, .. } => Outcome::Accepted(*bound),
+        Verdict::TooMany | Verdict::Refused { .. } => Outcome::Refused,
+    }
+}
+
+/// All that is said of a file.
+#[derive(Clone, Copy)]
+struct Said<'s> {
+    file: &'s str,
+    remarks: &'s [Remark],
+    run: &'s Option<RunTold>,
+    outcome: Outcome,
+}
+
+impl<'s> Said<'s> {
+    /// The run that is told with a remark.
+    fn run_of(self, number: usize) -> Option<&'s RunTold> {
+        match self.run {
+            Some(told) if told.remark == number => Some(told),
+            _ => None,
+        }
+    }
+}
+
+fn page_of(alloc: Global, said: Said<'_>, form: Form) -> Result<Text, AllocError> {
+    match form {
+        Form::Lines => lines_of(alloc, said),
+        Form::Json => objects_of(alloc, said),
+    }
+}
+
+/// How many remarks weigh so much.
+fn count(remarks: &[Remark], severity: Severity) -> u64 {
+    remarks
+        .iter()
+        .filter(|remark| remark.severity == severity)
+        .count() as u64
+}
+
+/// A line for each remark, and one for the script.
+fn lines_of(alloc: Global, said: Said<'_>) -> Result<Text, AllocError> {
+    let mut page = Vec::new(alloc);
+    for (number, remark) in said.remarks.iter().enumerate() {
+        put_remark(&mut page, said.file, remark)?;
+        if let Some(run) = said.run_of(number) {
+            page.extend_from_slice(&run.lines)?;
+        }
+    }
+    put_all(&mut page, &[said.file, ": "])?;
+    match said.outcome {
+        Outcome::NotRead => put(&mut page, "not read")?,
+        Outcome::NoScript => put(&mut page, "no script")?,
+        Outcome::Refused => put(&mut page, "refused")?,
+        Outcome::Accepted(1) => put(&mut page, "accepted, at most 1 command")?,
+        Outcome::Accepted(bound) => {
+            put_numbered(&mut page, "accepted, at most ", bound, " commands")?;
+        }
+    }
+    put_counts(&mut page, said.remarks)?;
+    put(&mut page, "\n")?;
+    Ok(page)
+}
+
+/// Adds the line of a remark, and that of the card beside which its statement is refused.
+fn put_remark(page: &mut Text, file: &str, remark: &Remark) -> Result<(), AllocError> {
+    put_all(page, &[file, ":"])?;
+    put_numbered(page, "", u64::from(remark.place.line), ":")?;
+    put_numbered(page, "", remark.place.column as u64, ": ")?;
+    put_all(page, &[remark.severity.word(), ": "])?;
+    page.extend_from_slice(&remark.words)?;
+    put_all(page, &[" [", remark.kind, "]\n"])?;
+    if !remark.card.is_empty() {
+        put(page, "    card     ")?;
+        page.extend_from_slice(&remark.card)?;
+        put(page, "\n")?;
+    }
+    Ok(())
+}
+
+/// Adds how many errors, warnings and notes there are, if there are any.
+fn put_counts(page: &mut Text, remarks: &[Remark]) -> Result<(), AllocError> {
+    let mut front = " (";
+    for severity in [Severity::Error, Severity::Warning, Severity::Note] {
+        let number = count(remarks, severity);
+        if number > 0 {
+            put_numbered(page, front, number, " ")?;
+            put_all(page, &[severity.word(), if number == 1 { "" } else { "s" }])?;
+            front = ", ";
+        }
+    }
+    put(page, if remarks.is_empty() { "" } else { ")" })
+}
+
+/// An object for each remark, and one for the script.
+fn objects_of(alloc: Global, said: Said<'_>) -> Result<Text, AllocError> {
+    let mut page = Vec::new(alloc);
+    for (number, remark) in said.remarks.iter().enumerate() {
+        let object = remark_object(alloc, said.file, remark, said.run_of(number))?;
+        put_object(alloc, &mut page, object)?;
+    }
+    put_object(alloc, &mut page, verdict_object(alloc, said)?)?;
+    Ok(page)
+}
+
+/// Adds the line of an object.
+fn put_object(alloc: Global, page: &mut Text, object: Value) -> Result<(), AllocError> {
+    let text = object.to_string(alloc)?;
+    put_all(page, &[text.as_str(), "\n"])
+}
+
+/// A number, or null.
+fn number_or_null(number: Option<usize>) -> Value {
+    match number {
+        Some(number) => Value::from(number as u64),
+        None => Value::Null,
+    }
+}
+
+fn remark_object(
+    alloc: Global,
+    file: &str,
+    remark: &Remark,
+    run: Option<&RunTold>,
+) -> Result<Value, AllocError> {
+    let (words, card) = (text_of(&remark.words), text_of(&remark.card));
+    let (severity, kind) = (remark.severity.word(), remark.kind);
+    let (line, column) = (remark.place.line, remark.place.column as u64);
+    let point = number_or_null(remark.point);
+    let mut object = json!(in alloc; {
+        "file": file,
+        "line": line,
+        "column": column,
+        "severity": severity,
+        "kind": kind,
+        "text": words,
+        "point": point
+    })?;
+    if let Some(shape) = remark.shape {
+        let mut digits = [0; 16];
+        hex::encode_to_slice(shape.0.to_be_bytes(), &mut digits).unwrap();
+        let digits = text_of(&digits);
+        add(alloc, &mut object, "shape", json!(in alloc; digits)?)?;
+        add(alloc, &mut object, "card", json!(in alloc; card)?)?;
+    }
+    if let Some(run) = run {
+        let told = &run.object;
+        add(alloc, &mut object, "run", json!(in alloc; told)?)?;
+    }
+    Ok(object)
+}
+
+/// Adds a member to an object.
+fn add(alloc: Global, object: &mut Value, name: &str, value: Value) -> Result<(), AllocError> {
+    let key = String::from_str(alloc, name)?;
+    if let Some(members) = object.as_object_mut() {
+        members.insert(key, value)?;
+    }
+    Ok(())
+}
+
+fn verdict_object(alloc: Global, said: Said<'_>) -> Result<Value, AllocError> {
+    let Said {
+        file,
+        remarks,
+        outcome,
+        ..
+    } = said;
+    let errors = count(remarks, Severity::Error);
+    let warnings = count(remarks, Severity::Warning);
+    let notes = count(remarks, Severity::Note);
+    let object = match outcome {
+        Outcome::Accepted(bound) => json!(in alloc; {
+            "file": file, "verdict": "accepted", "commands": bound,
+            "errors": errors, "warnings": warnings, "notes": notes
+        }),
+        Outcome::NotRead | Outcome::NoScript | Outcome::Refused => {
+            let verdict = match outcome {
+                Outcome::NotRead => "not read",
+                Outcome::NoScript => "no script",
+                _ => "refused",
+            };
+            json!(in alloc; {
+                "file": file, "verdict": verdict,
+                "errors": errors, "warnings": warnings, "notes": notes
+            })
+        }
+    };
+    object.map_err(|_| AllocError)
+}

@@ -1,0 +1,224 @@
+//! What is said of a verdict, place by place.
+
+use crate::allowed::{Allowed, is_warning};
+use crate::columns::{Place, place_of_name, place_of_point, statement_places};
+use crate::judging::Verdict;
+use crate::remark::{Remark, Severity};
+use sdv_explain::{Failure, TextFault, TextFaults};
+use sdv_facts::Certificate;
+use sdv_graph::Graph;
+use sdv_review::{Finding, Matter, Name, kind_word, matter_words};
+use sdv_script::FaultKind;
+use sdv_telling::{Beside, Text, put_reason, put_shape, refused_word};
+use std::alloc::{AllocError, Global};
+
+/// What is said where a script has too many shapes, or a run may send too many commands.
+const TOO_MANY: &str =
+    "a run may send more than 1099511627776 commands, or its statements meet more than 65536 shapes of cards in all; give loops fewer turns, or make two scripts of it";
+
+/// The word for a fault of a text.
+fn fault_word(kind: FaultKind) -> &'static str {
+    match kind {
+        FaultKind::Token => "token",
+        FaultKind::Syntax => "syntax",
+        FaultKind::Name => "name",
+        FaultKind::Command => "command",
+        FaultKind::Argument => "argument",
+        FaultKind::Guard => "guard",
+        FaultKind::Limit => "limit",
+        FaultKind::NoEnd => "no-end",
+        FaultKind::Memory => "memory",
+    }
+}
+
+/// What is said of a fault of a text.
+fn fault_remark(alloc: Global, fault: TextFault) -> Remark {
+    let TextFault {
+        fault,
+        column,
+        words,
+    } = fault;
+    Remark {
+        place: Place {
+            line: fault.line,
+            column,
+        },
+        severity: Severity::Error,
+        kind: fault_word(fault.kind),
+        words,
+        card: Vec::new(alloc),
+        point: None,
+        shape: None,
+    }
+}
+
+/// What is said of the faults of a text.
+pub fn fault_remarks(alloc: Global, faults: TextFaults) -> Result<Vec<Remark>, AllocError> {
+    let TextFaults { first, further } = faults;
+    let mut remarks = Vec::new(alloc);
+    remarks.push(fault_remark(alloc, first))?;
+    for fault in further {
+        remarks.push(fault_remark(alloc, fault))?;
+    }
+    Ok(remarks)
+}
+
+/// A script, as a verdict is told of it.
+#[derive(Clone, Copy)]
+pub struct Subject<'s, 'g> {
+    /// Its text, and what is allowed there.
+    pub allowed: Allowed<'s>,
+    /// Its graph.
+    pub graph: &'s Graph<'g>,
+}
+
+/// What is said of a verdict, in the order of the text.
+pub fn remarks_of(
+    alloc: Global,
+    subject: Subject<'_, '_>,
+    verdict: &Verdict,
+) -> Result<Vec<Remark>, AllocError> {
+    let places = statement_places(alloc, subject.allowed.text)?;
+    let mut remarks = Vec::new(alloc);
+    match verdict {
+        Verdict::TooMany => remarks.push(too_many(alloc)?)?,
+        Verdict::Refused {
+            failures,
+            known,
+            ..
+        } => {
+            for failure in failures {
+                let place = place_of_point(subject.graph, &places, failure.point);
+                remarks.push(failure_remark(alloc, subject.graph, known, failure, place)?)?;
+            }
+        }
+        Verdict::Accepted { found, writes, .. } => {
+            add_findings(alloc, subject, &places, found, &mut remarks)?;
+            add_findings(alloc, subject, &places, writes, &mut remarks)?;
+        }
+    }
+    remarks.sort_by_key(|remark| (remark.place.line, remark.place.column))?;
+    Ok(remarks)
+}
+
+/// What is said of a file that cannot be used.
+pub fn unread_remark(alloc: Global) -> Result<Remark, AllocError> {
+    Ok(Remark {
+        place: Place { line: 1, column: 1 },
+        severity: Severity::Error,
+        kind: "file",
+        words: Vec::from_slice(alloc, b"the file cannot be opened or read, or is not UTF-8")?,
+        card: Vec::new(alloc),
+        point: None,
+        shape: None,
+    })
+}
+
+/// What is said where there is too much.
+fn too_many(alloc: Global) -> Result<Remark, AllocError> {
+    Ok(Remark {
+        place: Place { line: 1, column: 1 },
+        severity: Severity::Error,
+        kind: "too-many",
+        words: Vec::from_slice(alloc, TOO_MANY.as_bytes())?,
+        card: Vec::new(alloc),
+        point: None,
+        shape: None,
+    })
+}
+
+/// What is said of a point that fails.
+fn failure_remark(
+    alloc: Global,
+    graph: &Graph<'_>,
+    known: &Certificate,
+    failure: &Failure,
+    place: Place,
+) -> Result<Remark, AllocError> {
+    let mut words = Vec::new(alloc);
+    let mut card = Vec::new(alloc);
+    let mut kind = "illegal";
+    let (_table, points) = known.shown();
+    if let Some(here) = points.get(failure.point) {
+        if failure.point < graph.len() {
+            let beside = Beside {
+                numbers: here.facts.numbers(),
+                shape: failure.shape,
+            };
+            put_reason(&mut words, graph, failure.point, failure.why, beside)?;
+            put_shape(&mut card, failure.shape, &graph.names().flags)?;
+            kind = refused_word(
+                &graph.point(failure.point).action,
+                failure.why,
+                failure.shape,
+            );
+        }
+    }
+    Ok(Remark {
+        place,
+        severity: Severity::Error,
+        kind,
+        words,
+        card,
+        point: Some(failure.point),
+        shape: Some(failure.shape),
+    })
+}
+
+/// Adds what is said of findings that are not allowed.
+fn add_findings(
+    alloc: Global,
+    subject: Subject<'_, '_>,
+    places: &[Place],
+    found: &[Finding],
+    remarks: &mut Vec<Remark>,
+) -> Result<(), AllocError> {
+    for finding in found {
+        if !subject.allowed.allows(subject.graph, finding) {
+            remarks.push(finding_remark(alloc, subject, places, finding)?)?;
+        }
+    }
+    Ok(())
+}
+
+/// What is said of a finding.
+fn finding_remark(
+    alloc: Global,
+    subject: Subject<'_, '_>,
+    places: &[Place],
+    finding: &Finding,
+) -> Result<Remark, AllocError> {
+    let Subject { allowed, graph } = subject;
+    let place = match (finding.matter, finding.point) {
+        (Matter::Unread(name), _) => place_of_name(allowed.text, name_of(graph, name)),
+        (_, Some(point)) => place_of_point(graph, places, point),
+        (_, None) => Place { line: 1, column: 1 },
+    };
+    let severity = if is_warning(finding.matter) {
+        Severity::Warning
+    } else {
+        Severity::Note
+    };
+    Ok(Remark {
+        place,
+        severity,
+        kind: kind_word(finding.matter),
+        words: matter_words(alloc, graph, finding.point, finding.matter)?,
+        card: Vec::new(alloc),
+        point: finding.point,
+        shape: None,
+    })
+}
+
+/// The name that a script declares in this place.
+fn name_of<'g>(graph: &'g Graph<'_>, name: Name) -> &'g str {
+    let names = graph.names();
+    let found = match name {
+        Name::Number(place) => names.numbers.get(place),
+        Name::Flag(place) => names.flags.get(place),
+    };
+    match found {
+        Some(found) => found,
+        None => "",
+    }
+}
