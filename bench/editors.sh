@@ -59,5 +59,19 @@ judge "what is wrong" "$(look "$work/wrong.sdv" | tr -d '\n')" "sdv $(
       for c in 6 8 9 11; do echo "2:$c sdvError"; done
       for c in 7 8 9 10 11 12; do echo "3:$c sdvReserved"; done; } | paste -s -d ' ' -)"
 
+# what the compiler file reads of findings: each with its line, its column and its sort
+cat > "$work/find.vim" <<'SCRIPT'
+set nocompatible
+let &runtimepath = $EDITOR_FILES . ',' . &runtimepath
+compiler sdv
+cgetfile $FINDINGS
+call writefile(map(getqflist(), {_, found -> join([bufname(found.bufnr), found.lnum, found.col, found.type])}), $SAID)
+quitall!
+SCRIPT
+printf '%s\n' 'a.sdv:9:3: error: CMD41: none [app-command]' '    card     idle' 'b.sdv:21:25: warning: done [write]' \
+    'b.sdv:3:7: note: hc is never read [unread]' 'b.sdv: accepted, at most 208 commands (1 warning, 1 note)' > "$work/findings"
+EDITOR_FILES="$top/editors/vim" FINDINGS="$work/findings" SAID="$work/said" vim -u NONE -es -S "$work/find.vim" < /dev/null > /dev/null 2>&1 || true
+judge "findings" "$(paste -s -d ' ' "$work/said")" "a.sdv 9 3 e b.sdv 21 25 w b.sdv 3 7 n"
+
 echo "vim: $passed passed, $failed failed"
 [ "$failed" -eq 0 ]

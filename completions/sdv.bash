@@ -39,18 +39,25 @@ _sdv() {
     last=$((${#words[@]} - 1))
     local word=${words[last]} before=${words[last - 1]}
     if [ "$last" -eq 1 ]; then
-        _sdv_words "$word" "frame certify check run batch explain emit audit drive card review try refute --help --version"
+        _sdv_words "$word" "frame verify certify check run batch explain emit audit drive card review try refute --help --version"
         return
     fi
     # which of the command's words this is, options and their files left out
     for ((at = 2; at < last; at++)); do
         case ${words[at]} in
-        --in | --out | --trace | --binary | --card | --schedule | --registers | --script) at=$((at + 1)) ;;
+        --in | --out | --trace | --binary | --card | --schedule | --registers | --script | --save | --allow) at=$((at + 1)) ;;
         -?*) ;;
         *) place=$((place + 1)) ;;
         esac
     done
     case ${words[1]}:$place in
+    verify:*)
+        case $before:$word in
+        --save:*) mapfile -t COMPREPLY < <(compgen -d -- "$word") ;;
+        --allow:*) _sdv_words "$word" "partition write erase boot-enable unreached one-way unread" ;;
+        *:-*) _sdv_words "$word" "--json --no-run --save --allow" ;;
+        *) _sdv_files "$word" '*.sdv' ;;
+        esac ;;
     run:*)
         case $before in
         --in | --out | --registers) _sdv_files "$word" '*' && return ;;

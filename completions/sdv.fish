@@ -8,7 +8,7 @@ function __sdv_place
     for word in $words
         if test $skip -eq 1
             set skip 0
-        else if contains -- $word --in --out --trace --binary --card --schedule --registers --script
+        else if contains -- $word --in --out --trace --binary --card --schedule --registers --script --save --allow
             set skip 1
         else
             set place (math $place + 1)
@@ -22,12 +22,13 @@ function __sdv_at
     __fish_seen_subcommand_from $argv[2..]; and test (__sdv_place) -eq $argv[1]
 end
 
-set -l commands frame certify check run batch explain emit audit drive card review try refute
+set -l commands frame verify certify check run batch explain emit audit drive card review try refute
 
 complete -c sdv -f
 complete -c sdv -n "not __fish_seen_subcommand_from $commands" -s h -l help -d "How the program is called"
 complete -c sdv -n "not __fish_seen_subcommand_from $commands" -s V -l version -d "The version"
 complete -c sdv -n "not __fish_seen_subcommand_from $commands" -a frame -d "The six bytes of a command frame"
+complete -c sdv -n "not __fish_seen_subcommand_from $commands" -a verify -d "All that is wrong with scripts"
 complete -c sdv -n "not __fish_seen_subcommand_from $commands" -a certify -d "The certificate of a script"
 complete -c sdv -n "not __fish_seen_subcommand_from $commands" -a check -d "Check a script with its certificate"
 complete -c sdv -n "not __fish_seen_subcommand_from $commands" -a run -d "Run a script beside a simulated card"
@@ -42,6 +43,10 @@ complete -c sdv -n "not __fish_seen_subcommand_from $commands" -a try -d "Run an
 complete -c sdv -n "not __fish_seen_subcommand_from $commands" -a refute -d "A run that shows that a script is refused"
 
 complete -c sdv -n "__sdv_at 0 certify check run explain emit drive review try refute" -k -a "(__fish_complete_suffix .sdv)"
+complete -c sdv -n "__fish_seen_subcommand_from verify" -k -a "(__fish_complete_suffix .sdv)"
+complete -c sdv -n "__fish_seen_subcommand_from verify" -l no-run -d "Look for no run"
+complete -c sdv -n "__fish_seen_subcommand_from verify" -l save -r -a "(__fish_complete_directories)" -d "The folder for what runs need"
+complete -c sdv -n "__fish_seen_subcommand_from verify" -l allow -x -a "partition write erase boot-enable unreached one-way unread" -d "A kind of findings to leave out"
 complete -c sdv -n "__sdv_at 1 check run emit drive explain" -k -a "(__fish_complete_suffix .cert)"
 complete -c sdv -n "__sdv_at 2 run" -k -a "(__fish_complete_suffix .card)"
 complete -c sdv -n "__sdv_at 3 run" -F -a "new:" -d "An image of zeros: new:BLOCKS"
