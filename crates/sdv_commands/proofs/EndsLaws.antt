@@ -1,5 +1,5 @@
 -- What the end of a request says of standard output.
-use Rattle.std.proofs.Common.{◌≡◌, ◌≢◌, ◌∙◌, inl, inr, refl, sym, ap, ℕ, IfErr, IsErrAnd, List, OnOk, Option, Result, Ok, Err, Some, None, false}
+use Rattle.std.proofs.Common.{subst, ◌≡◌, ◌≢◌, ◌∙◌, inl, inr, refl, sym, ap, ℕ, IfErr, IsErrAnd, List, OnOk, Option, Result, Ok, Err, Some, None, false}
 use Rattle.std.specs.Io.KnownBytes.{Keeps}
 use Rattle.clap.specs.Words.{Text}
 use Rattle.sdv_commands.specs.Refute.{IsTold, RefuteEnds, Untold}
@@ -31,7 +31,7 @@ use Rattle.sdv_commands.specs.Explain.{ExplainsText, HasNoAnswer, IsJudgement}
 use Rattle.sdv_commands.specs.Frame.{IsFrameText, WriteNone}
 use Rattle.sdv_commands.specs.Graph.{IsDrawing, IsUndrawn}
 use Rattle.sdv_commands.specs.Review.{IsReview}
-use Rattle.sdv_commands.specs.Ends.{AreQuiet, AreWhole, EndsRequest, EndsWords, IsQuiet, IsWhole, for_memory, for_nothing, for_page, for_request}
+use Rattle.sdv_commands.specs.Ends.{AreQuiet, AreWhole, EndsRequest, EndsWords, IsQuiet, IsWhole, exit_status, for_memory, for_nothing, for_page, for_request}
 
 module _ (files : Files) (s s' : Streams) (before after : Option (List ℕ)) where
   emit-kept : (names : EmitNames) (fault : Fault) → fault ≢ Output → EmitEnds files names (Some fault) before after → Keeps before after
@@ -177,6 +177,20 @@ no_output fault one is = let two : 2 ≡ 1 = sym (ap status_of is) ∙ one in cc
 pub of_memory : (fault : Fault) → status_of fault ≡ 3 → fault ≡ Memory
 of_memory Memory three = refl
 of_memory _ three = cc
+
+module _ (files : Files) (s s' : Streams) (words : List Text) (before after : Option (List ℕ)) where
+  -- a status of 1 or 3 after words that print nothing then
+  pub refused-kept : (outcome : Option Fault) → EndsWords files s s' words outcome before after → AreQuiet words → exit_status outcome ≡ 1
+      → Keeps before after
+  refused-kept None ends quiet one = cc
+  refused-kept (Some fault) ends quiet one = words-kept files s s' before after words quiet fault (no_output fault one) ends
+
+  pub no_memory-kept : (outcome : Option Fault) → EndsWords files s s' words outcome before after → AreWhole words → exit_status outcome ≡ 3
+      → Keeps before after
+  no_memory-kept None ends whole three = cc
+  no_memory-kept (Some fault) ends whole three =
+      words-memory-kept files s s' before after words whole
+      (subst (λ (f : Fault). EndsWords files s s' words (Some f) before after) (of_memory fault three) ends)
 
 -- WORDS that are no request
 

@@ -6,7 +6,7 @@ ghost use Rattle.sdv_program.specs.Requests.{seen};
 ghost use Rattle.sdv_program.specs.Files.{any_files};
 ghost use Rattle.sdv_lines.specs.Streams.{IsNew, Streams, streams_of};
 ghost use Rattle.sdv_program.specs.Outcomes.{outcome_of};
-ghost use Rattle.sdv_commands.specs.Ends.{AreQuiet, AreWhole, Ends, EndsRequest, EndsWords};
+ghost use Rattle.sdv_commands.specs.Ends.{AreQuiet, AreWhole, Ends, EndsRequest, EndsWords, SaysWhy, exit_status};
 ghost use Rattle.sdv_program.specs.Fault.{Says, SaysLine, status_of};
 
 use crate::attempt::try_files;
@@ -62,9 +62,24 @@ pub fn program_over_lines<R: Files + AllocGlobal, I: Read, L: Write, O: Write, E
         → Keeps (O.contents out.old) (O.contents out.new) }
 {
     let mut notes = Vec::new(rt.alloc());
-    match answer(rt.alloc(), &MachineFiles(rt), words, lines, out, &mut notes) {
+    let answered = answer(rt.alloc(), &MachineFiles(rt), words, lines, out, &mut notes);
+    status_after(rt.alloc(), words, answered, &notes, err)
+}
+
+/// The exit status after an answer. Where there is none, it says why.
+fn status_after<E: Write>(
+    alloc: Global,
+    words: &[&str],
+    answered: Result<(), Fault<'_>>,
+    notes: &[u8],
+    err: &mut E,
+) -> u8
+    ensures status { result ≡ exit_status (outcome_of answered.entry) }
+    ensures said { SaysWhy (outcome_of answered.entry) (E.contents err.old) (E.contents err.new) }
+{
+    match answered {
         Ok(()) => 0,
-        Err(fault) => report(rt.alloc(), words, fault, &notes, err),
+        Err(fault) => report(alloc, words, fault, notes, err),
     }
 }
 

@@ -34,7 +34,7 @@ returns-in-Card g c =
     let a' = g.I.Read.remaining c.serve_card.new.reader in
     let q' = g.L.Write.contents c.serve_card.new.writer in
     let s = streams_of g.I.Read.remaining g.L.Write.contents c.args.lines.now in
-    let s' : Streams = record { answers = a'; requests = q'; left = c.args.lines.now.commands_left; fault = c.args.lines.now.fault } in
+    let s' : Streams = record { answers = a'; requests = q'; left = c.args.lines.now.commands_left; fault = c.args.lines.now.fault; unheard = c.args.lines.now.unheard } in
     subst (λ (request : Request). EndsRequest (g.S.Store.known c.args.files.now) s s' (seen request) (outcome_of c.serve_card.result)
     (g.O.Write.contents c.args.out.now) (g.O.Write.contents c.args.out.now)) (sym c.in-Card.is) (
       card_ends (g.S.Store.known c.args.files.now) (card_names_of c.in-Card.names) a a' q q' c.serve_card.result
