@@ -67,7 +67,7 @@ static void ask_trace(const char *request, char *answer)
     memmove(answer, answer + length + 1, strlen(answer + length + 1) + 1);
 }
 
-/* The answer to a request. The trace has neither the response or the data lines behind it, `more`, nor blocks. */
+/* The answer to a request. The trace has neither what stands behind it, `more`, nor blocks. */
 static void ask(const char *request, const char *more, uint32_t blocks, char *answer)
 {
     if (trace)
@@ -90,14 +90,36 @@ static void read_digits(const char *text, uint8_t *bytes, uint32_t count)
     }
 }
 
+/* The response that a command waits for, and the data phase that its request announces. */
+static void print_more(const struct sdv_event *event, char *more)
+{
+    const char *response = responses[event->expect & 7];
+    unsigned count = event->count, lines = event->lines;
+
+    switch (event->data) {
+    case SDV_BLOCKS_IN:
+        snprintf(more, LINE, " %s in %u lines %u", response, count, lines);
+        break;
+    case SDV_BLOCKS_OUT:
+        snprintf(more, LINE, " %s out %u lines %u", response, count, lines);
+        break;
+    case SDV_REGISTER:
+        snprintf(more, LINE, " %s in %u bytes lines %u", response, count, lines);
+        break;
+    default:
+        snprintf(more, LINE, " %s", response);
+        break;
+    }
+}
+
 static int answer_command(const uint32_t *table, size_t words, struct sdv_state *state, const struct sdv_event *event)
 {
-    char request[LINE], more[8], answer[LINE];
+    char request[LINE], more[LINE], answer[LINE];
     uint8_t bytes[15] = {0};
     uint32_t word = 0;
 
     snprintf(request, sizeof request, "CMD%u %08x", (unsigned)event->index, (unsigned)event->argument);
-    snprintf(more, sizeof more, " %s", responses[event->expect & 7]);
+    print_more(event, more);
     ask(request, more, 0, answer);
     if (event->data != SDV_NO_DATA)
         announced = *event;
