@@ -8,3 +8,4 @@ pub mod DataLaws
 pub mod ServeLaws
 pub mod PartnerLaws
 pub mod PortLaws
+pub mod NoiseLaws

@@ -7,3 +7,5 @@ pub mod Streams
 pub mod Hearing
 pub mod Serving
 pub mod Partner
+pub mod Noise
+pub mod Fronts

@@ -7,6 +7,8 @@
 //!
 //! - Each call of a `LinePort` writes exactly its request, reads exactly an answer, and returns what the answer says
 //!   (`LineSteps`). An answer `damaged` is heard as a time-out. Blanks at the end of a line say nothing (`trimmed`).
+//! - A port over a `Quieted` reader has no lines before the first answer (`specs/Noise.antt`): those that have not the form
+//!   of an answer to any request are left out, so many at most.
 //! - The request of a command announces nothing, or the data phase that the command table has for it (`specs/Due.antt`).
 //!   Whoever made the port says how many blocks CMD18 and CMD25 move, and over how many data lines; `serve` makes the same
 //!   call with and without an announcement.
@@ -29,6 +31,7 @@ mod fault;
 mod hearing;
 pub mod laws;
 mod line;
+mod noise;
 mod port;
 mod request;
 mod serving;
@@ -37,4 +40,5 @@ mod words;
 pub use card_side::serve;
 pub use due::{Announcement, Due, Load};
 pub use fault::{AskFault, Found, PortFault, ProtocolFault, ServeFault, Wanted};
+pub use noise::Quieted;
 pub use port::LinePort;
