@@ -14,4 +14,5 @@ pub mod InputLaws
 pub mod NoteLaws
 pub mod ReportLaws
 pub mod TraceLaws
+pub mod EndLaws
 pub mod TraceLines

@@ -10,6 +10,7 @@ use Rattle.sdv_audit.specs.declared.line.TraceLine.{TraceLine}
 use Rattle.sdv_audit.specs.declared.notes.Topic.{Topic}
 use Rattle.sdv_audit.specs.declared.style.Style.{Style}
 use Rattle.sdv_audit.specs.Notes.{HasNotes, Note, ending, is_noted, note_if, note_text, notes_at}
+use Rattle.sdv_audit.specs.Texts.{Trace}
 use Rattle.sdv_audit.specs.Report.{AddsEnding, AddsNotes, AddsReport, at_start, notes, tally_of}
 
 pub notes_more : (style : Style) (a b : List Note) (x y : Text) → HasNotes style a x → HasNotes style b y → HasNotes style (a ++ b) (x ++ y)
@@ -49,7 +50,7 @@ pub adds_more : (style : Style) (a b : List Note) (old mid new : Option (List �
 adds_more style a b old mid new (x, h, p) (y, k, q) = (x ++ y, notes_more style a b x y h k, appends_more old mid new x y p q)
 
 -- the whole report
-pub adds_ending : (k : Kind) (style : Style) (lines : List TraceLine) (old mid new : Option (List ℕ)) → AddsNotes style (notes k style at_start lines) old mid
-    → AddsEnding style (tally_of k style lines) mid new → AddsReport k style lines old new
-adds_ending k style lines old mid new (text, h, p) (words, q) =
-    (text, words, h, appends_more old mid new text (ending style (tally_of k style lines) words) p q)
+pub adds_ending : (k : Kind) (style : Style) (trace : Trace) (old mid new : Option (List ℕ)) → AddsNotes style (notes k style at_start trace.lines) old mid
+    → AddsEnding style trace.count (tally_of k style trace.lines) mid new → AddsReport k style trace old new
+adds_ending k style trace old mid new (text, h, p) (words, q) =
+    (text, words, h, appends_more old mid new text (ending style trace.count (tally_of k style trace.lines) words) p q)

@@ -7,36 +7,34 @@ use Rattle.sdv_audit.specs.declared.audit.Findings.{Findings}
 use Rattle.sdv_audit.specs.declared.notes.TheConstants.{TOPICS}
 use Rattle.sdv_audit.specs.declared.turn.Told.{Told}
 use Rattle.sdv_audit.specs.Course.{Course, IsAt, course_after, found_at}
+use Rattle.sdv_audit.specs.Audited.{is_empty}
 use Rattle.sdv_audit.specs.Room.{AreMany}
+use Rattle.sdv_audit.proofs.Courses.{empty_same}
 use Rattle.sdv_audit.specs.declared.fault.AuditFault.{AuditFault}
 use Rattle.sdv_audit.specs.declared.fault.AuditFault.TheVariants as audit_faults
 use Rattle.sdv_audit.specs.declared.fault.NoteFault.TheVariants as note_faults
 use Rattle.sdv_audit.specs.Faults.{fault_of_audit}
 use Rattle.sdv_audit.specs.declared.style.Style.{Style}
 use Rattle.sdv_audit.specs.declared.report.Report.{Report}
-use Rattle.sdv_audit.specs.Notes.{HasNotes, counted, has_number, notes_at, tally_after}
-use Rattle.sdv_audit.specs.Report.{Progress, ReportAt, number_at, line_notes, progress_after}
-
-number_same : (report : Report) (p : Progress) → ReportAt report p → counted true report.tally.lines ≡ number_at p
-number_same report p at = ap (λ t. counted true t.lines) at.tally
+use Rattle.sdv_audit.specs.Notes.{HasNotes, has_number, notes_at, tally_after}
+use Rattle.sdv_audit.specs.Report.{Progress, ReportAt, line_notes, progress_after}
 
 -- the notes on a line, by what is found there
-pub notes_same : (k : Kind) (style : Style) (report : Report) (p : Progress) (told : Told) (found : Findings) (number : ℕ) (text : Text) → ReportAt report p →
-    found ≡ found_at k told p.course → number ≡ counted true report.tally.lines → HasNotes style (notes_at style number told.line found TOPICS) text →
-    HasNotes style (line_notes k style p told) text
-notes_same k style report p told found number text at is same h =
-    subst (λ (f : Findings). HasNotes style (notes_at style (number_at p) told.line f TOPICS) text) is
-    (subst (λ (n : ℕ). HasNotes style (notes_at style n told.line found TOPICS) text) (same ∙ number_same report p at) h)
+pub notes_same : (k : Kind) (style : Style) (p : Progress) (told : Told) (found : Findings) (number : ℕ) (text : Text) →
+    found ≡ found_at k told p.course → HasNotes style (notes_at style number told.line found TOPICS) text → HasNotes style (line_notes k style p number told) text
+notes_same k style p told found number text is h = subst (λ (f : Findings). HasNotes style (notes_at style number told.line f TOPICS) text) is h
 
 -- the report after a line
 pub report_after : (k : Kind) (style : Style) (old new : Report) (p : Progress) (told : Told) (found : Findings) → ReportAt old p → found ≡ found_at k told p.course →
-    new.audit.kind ≡ new.kind → IsAt new.audit (course_after k told p.course) → new.tally ≡ tally_after (has_number style told.line) found old.tally →
-    ReportAt new (progress_after k style p told)
+    new.audit.kind ≡ new.kind → IsAt new.audit (course_after k told p.course) →
+    new.tally ≡ tally_after (has_number style told.line) (is_empty old.audit.shapes.items) found old.tally → ReportAt new (progress_after k style p told)
 report_after k style old new p told found at is kind course tally = record {
   kind = kind;
   course = course;
-  tally = tally ∙ (ap (λ f. tally_after (has_number style told.line) f old.tally) is
-      ∙ ap (tally_after (has_number style told.line) (found_at k told p.course)) at.tally);
+  tally = tally
+      ∙ (ap (λ v. tally_after (has_number style told.line) v found old.tally) (empty_same old.audit.shapes.items p.course.shapes at.course.shapes)
+      ∙ (ap (λ f. tally_after (has_number style told.line) (is_empty p.course.shapes) f old.tally) is
+      ∙ ap (tally_after (has_number style told.line) (is_empty p.course.shapes) (found_at k told p.course)) at.tally));
 }
 
 -- TOO MANY SHAPES follow a line

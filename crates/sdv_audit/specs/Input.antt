@@ -1,9 +1,11 @@
 -- READING the lines of a trace: texts between line feeds.
-use Rattle.std.specs.Prelude.{◌≡◌, ◌<◌, ℕ, List, [], ◌∷◌, ◌++◌, length, Option, Some, None, Result, Ok, Err, IfSome}
+use Rattle.std.specs.Prelude.{◌≡◌, ◌<◌, ℕ, Bool, false, List, [], ◌∷◌, ◌++◌, length, Option, Some, None, Result, Ok, Err, IfSome}
 use Rattle.std.specs.List.{AllByRecursion}
 use Rattle.std.specs.Io.KnownBytes.{Consumes, IsAtEnd}
-use Rattle.sdv_audit.specs.declared.line.TraceLine.{TraceLine}
-use Rattle.sdv_audit.specs.Reading.{read_line}
+use Rattle.sdv_audit.specs.declared.style.Style.{Style}
+use Rattle.sdv_audit.specs.declared.texts.Said.{Said}
+use Rattle.sdv_audit.specs.Texts.{Trace, no_trace, read_said, with_said}
+use Rattle.sdv_text.specs.Fronts.{is_end}
 use Rattle.sdv_audit.specs.declared.input.TextEnd.{TextEnd}
 use Rattle.sdv_audit.specs.declared.input.TextEnd.TheVariants as ends
 use Rattle.sdv_audit.specs.declared.input.TextFault.{TextFault}
@@ -39,27 +41,32 @@ ReadsText old new text (Ok ends.End) = IsText text × Consumes old new text × I
 ReadsText old new text (Err faults.Long) = IfSome old BeginsLong
 ReadsText old new text (Err faults.Read) = Unit {0}
 
--- each text is that of a line
-abbrev pub AreRead : List (List ℕ) → List TraceLine → Type 0
-AreRead [] [] = Unit {0}
-AreRead (text ∷ texts) (line ∷ lines) = IsText text × (read_line text ≡ Ok line) × AreRead texts lines
-AreRead texts lines = ⊥
+-- each text is none of a fault, and together they tell this, from a trace on
+abbrev pub AreRead : Style → (before : Trace) → List (List ℕ) → (after : Trace) → Type 0
+AreRead style before [] after = before ≡ after
+AreRead style before (text ∷ texts) after =
+    (s : Said) × IsText text × (read_said text ≡ Ok s) × AreRead style (with_said style s before) texts after
 
--- these lines were read, each with its line feed
-pub record LinesRead (old new : Option (List ℕ)) (lines : List TraceLine) : Type 0 where
+-- this was read, each text with its line feed
+pub record LinesRead (style : Style) (old new : Option (List ℕ)) (trace : Trace) : Type 0 where
   pub texts : List (List ℕ)
-  pub are : AreRead texts lines
+  pub are : AreRead style no_trace texts trace
   pub read : Consumes old new (lines_of texts)
 
--- a text behind the last line feed is a line too, if it is not empty
+-- what stands behind the last line feed is a text too, if it is not empty
 abbrev pub last_texts : List ℕ → List (List ℕ)
 last_texts [] = []
 last_texts text = text ∷ []
 
--- all lines were read, up to the end
-pub record TraceRead (old new : Option (List ℕ)) (lines : List TraceLine) : Type 0 where
+-- nothing stands there
+abbrev pub is_over : TextEnd → (text : List ℕ) → Bool
+is_over ends.Feed text = false
+is_over ends.End text = is_end text
+
+-- all was read, up to the end
+pub record TraceRead (style : Style) (old new : Option (List ℕ)) (trace : Trace) : Type 0 where
   pub texts : List (List ℕ)
   pub last : List ℕ
-  pub are : AreRead (texts ++ last_texts last) lines
+  pub are : AreRead style no_trace (texts ++ last_texts last) trace
   pub read : Consumes old new (lines_of texts ++ last)
   pub end : IsAtEnd new

@@ -14,6 +14,7 @@ pub mod Room
 pub mod PrintedLines
 pub mod Faults
 pub mod Notes
+pub mod Texts
 pub mod Report
 pub mod Input
 pub mod AuditedTrace

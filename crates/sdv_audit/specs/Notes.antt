@@ -7,11 +7,12 @@ use Rattle.sdv_telling.specs.Statements.{Text}
 use Rattle.sdv_audit.specs.declared.audit.Findings.{Findings}
 use Rattle.sdv_audit.specs.declared.line.TraceLine.{TraceLine}
 use Rattle.sdv_audit.specs.declared.line.TraceLine.TheVariants.{Lines}
-use Rattle.sdv_audit.specs.declared.notes.TheConstants.{TOPICS, BEGINS_ANEW, IS_OUTSIDE, MAY_BE_IN, NO_CARD, NO_HOST, BEYOND_THE}
+use Rattle.sdv_audit.specs.declared.notes.TheConstants.{TOPICS, BEGINS_ANEW, IS_OUTSIDE, MAY_BE_IN, NO_CARD, NO_HOST, BEYOND_THE, NOT_FOLLOWED}
 use Rattle.sdv_audit.specs.declared.notes.Topic.{Topic}
 use Rattle.sdv_audit.specs.declared.notes.Topic.TheVariants as topics
 use Rattle.sdv_audit.specs.declared.style.Style.{Style}
 use Rattle.sdv_audit.specs.declared.style.Tally.{Tally}
+use Rattle.sdv_audit.specs.declared.texts.Count.{Count}
 use Rattle.sdv_audit.specs.declared.turn.Turn.{Turn}
 use Rattle.sdv_audit.specs.declared.turn.Turn.TheVariants.{Outside, OtherLength}
 use Rattle.sdv_audit.specs.Spelling.{line_text, told_text}
@@ -101,7 +102,8 @@ abbrev pub HasNotes : Style → List Note → (text : Text) → Type 0
 HasNotes style [] text = text ≡ []
 HasNotes style (n ∷ ns) text = (words rest : Text) × (text ≡ note_text style n words ++ rest) × HasNotes style ns rest
 
--- THE TALLY: how many lines there were, and how often each thing was found; no count passes 2^64 - 1
+-- THE TALLY: how many lines there were, and how often each thing was found; no count passes 2^64 - 1. A line is not followed
+-- where no shape is left, unless the audit begins anew there.
 
 abbrev pub counted : Bool → ℕ → ℕ
 counted more n = if more then min (n + 1) (2 ^ 64 - 1) else n
@@ -111,18 +113,36 @@ abbrev pub has_number : Style → TraceLine → Bool
 has_number style (Lines width) = not style.put_in
 has_number style line = true
 
-abbrev pub tally_after : (numbered : Bool) → Findings → Tally → Tally
-tally_after numbered found t = record {
+-- the lines of a stretch that is not followed: it ends where a line is
+abbrev pub stretch_after : (lost numbered : Bool) → ℕ → ℕ
+stretch_after lost numbered stretch = if lost then counted numbered stretch else 0
+
+abbrev pub is_lost : (waits : Bool) → Findings → Bool
+is_lost waits found = waits && not found.restarted
+
+abbrev pub tally_after : (numbered waits : Bool) → Findings → Tally → Tally
+tally_after numbered waits found t = record {
   lines = counted numbered t.lines;
   reckless = counted (is_reckless found.reckless) t.reckless;
   unanswered = counted (found.unanswered && not (is_other_length found.turn)) t.unanswered;
   lengths = counted (found.unanswered && is_other_length found.turn) t.lengths;
   beyond = counted found.beyond t.beyond;
   outside = counted (is_outside found.turn) t.outside;
+  lost = counted (is_lost waits found && numbered) t.lost;
+  stretch = stretch_after (is_lost waits found) numbered t.stretch;
 }
 
 abbrev pub no_tally : Tally
-no_tally = record { lines = 0; reckless = 0; unanswered = 0; lengths = 0; beyond = 0; outside = 0 }
+no_tally = record {
+  lines = 0;
+  reckless = 0;
+  unanswered = 0;
+  lengths = 0;
+  beyond = 0;
+  outside = 0;
+  lost = 0;
+  stretch = 0;
+}
 
 -- the host or the card left the rules
 abbrev pub has_findings : Tally → Bool
@@ -134,31 +154,54 @@ has_findings t =
 abbrev pub count_and : ℕ → Text → Text
 count_and number words = decimal number ++ words
 
-abbrev pub plain_summary : Tally → Text
-plain_summary t =
+abbrev pub plain_findings : Tally → Text
+plain_findings t =
     count_and t.lines (codes " lines, ") ++ (count_and t.reckless (codes " reckless, ") ++ (
-    count_and t.unanswered (codes " that no card answers, ") ++ (count_and t.lengths (codes " of another length, ") ++ (
-    count_and t.beyond (codes " beyond the capacity, ") ++ count_and t.outside (codes " outside\n")))))
+    count_and t.unanswered (codes " that no card answers, ") ++ (count_and t.lengths (codes " of another length, ") ++
+    count_and t.beyond (codes " beyond the capacity, "))))
 
-abbrev pub json_summary : Tally → Text
-json_summary t =
+abbrev pub plain_rest : Tally → (left_out : ℕ) → Text
+plain_rest t left_out =
+    count_and t.outside (codes " outside, ") ++ (
+    count_and t.lost (codes " not followed, ") ++ count_and left_out (codes " left out\n"))
+
+abbrev pub plain_summary : Tally → (left_out : ℕ) → Text
+plain_summary t left_out = plain_findings t ++ plain_rest t left_out
+
+abbrev pub json_findings : Tally → Text
+json_findings t =
     codes "{\"lines\":" ++ (count_and t.lines (codes ",\"reckless\":") ++ (
     count_and t.reckless (codes ",\"unanswered\":") ++ (count_and t.unanswered (codes ",\"lengths\":") ++ (
-    count_and t.lengths (codes ",\"beyond\":") ++ (
-    count_and t.beyond (codes ",\"outside\":") ++ count_and t.outside (codes "}\n"))))))
+    count_and t.lengths (codes ",\"beyond\":") ++ count_and t.beyond (codes ",\"outside\":")))))
 
-abbrev pub summary : Style → Tally → Text
-summary style t = if style.json then json_summary t else plain_summary t
+abbrev pub json_rest : Tally → (left_out : ℕ) → Text
+json_rest t left_out =
+    count_and t.outside (codes ",\"not_followed\":") ++ (
+    count_and t.lost (codes ",\"left_out\":") ++ count_and left_out (codes "}\n"))
 
--- THE STATES BEHIND THE LAST LINE, with its number, where states are asked for
+abbrev pub json_summary : Tally → (left_out : ℕ) → Text
+json_summary t left_out = json_findings t ++ json_rest t left_out
 
-abbrev pub end_front : Style → (lines : ℕ) → Text
-end_front style lines = if style.json then json_front lines [] (codes "end") else codes "at the end: "
+abbrev pub summary : Style → Tally → (left_out : ℕ) → Text
+summary style t left_out = if style.json then json_summary t left_out else plain_summary t left_out
 
-abbrev pub end_note : Style → (lines : ℕ) → (words : Text) → Text
-end_note style lines words =
-    if style.annotate then end_front style lines ++ (quoted words ++ note_end style) else []
+-- BEHIND THE LAST LINE, with the number of the last text
+
+abbrev pub end_front : Style → (name : Text) → (last : ℕ) → Text
+end_front style name last = if style.json then json_front last [] name else codes "at the end: "
+
+-- the states, where they are asked for
+abbrev pub end_note : Style → (last : ℕ) → (words : Text) → Text
+end_note style last words =
+    if style.annotate then end_front style (codes "end") last ++ (quoted words ++ note_end style) else []
+
+-- how many lines before the end are not followed, where there is one
+abbrev pub lost_note : Style → (last stretch : ℕ) → Text
+lost_note style last stretch =
+    if stretch == 0 then []
+    else end_front style (codes "not_followed") last ++ (NOT_FOLLOWED.now ++ (decimal stretch ++ note_end style))
 
 -- all that stands behind the notes on the lines
-abbrev pub ending : Style → Tally → (words : Text) → Text
-ending style t words = end_note style t.lines words ++ summary style t
+abbrev pub ending : Style → Count → Tally → (words : Text) → Text
+ending style c t words =
+    end_note style c.last words ++ (lost_note style c.last t.stretch ++ summary style t c.left_out)

@@ -3,7 +3,9 @@ use Rattle.std.specs.Prelude.{◌≡◌, ◌≤◌, ◌++◌, length, Ok}
 use Rattle.sdv_card.specs.ScriptEvent.{ScriptEvent, SendCommand, ReceiveBlocks, ReceiveRegister, GiveBlocks, AwaitReady, Return, Answered, BlocksIn, RegisterIn, BlocksOut, Waited}
 use Rattle.sdv_trace.specs.Trace.{line_feed, line_of}
 use Rattle.sdv_audit.specs.declared.line.TraceLine.{TraceLine}
+use Rattle.sdv_audit.specs.declared.texts.Said.TheVariants.{Line}
 use Rattle.sdv_audit.specs.Reading.{read_line}
+use Rattle.sdv_audit.specs.Texts.{read_said}
 use Rattle.sdv_audit.specs.Spelling.{IsWord, IsAnswerTo, line_text}
 use Rattle.sdv_audit.specs.Standing.{IsToldBy}
 
@@ -22,6 +24,7 @@ pub record LineRead (event : ScriptEvent) (returned : Return) : Type 0 where
   pub line : TraceLine
   pub printed : line_of event returned ≡ line_text line ++ line_feed
   pub read : read_line (line_text line) ≡ Ok line
+  pub said : read_said (line_text line) ≡ Ok (Line line)
   pub told : IsToldBy line event returned
 
 abbrev pub PrintedLinesAreRead : Type 0

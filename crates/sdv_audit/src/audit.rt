@@ -81,6 +81,13 @@ impl Audit {
         self.shapes.as_slice()
     }
 
+    /// The audit waits for a CMD0.
+    pub fn waits(&self) -> bool
+        ensures { result ≡ is_empty self.now.shapes.items }
+    {
+        self.shapes.is_empty()
+    }
+
     /// What the trace tells of the host so far.
     pub fn known(&self) -> &HostKnown
         ensures { result.now ≡ self.now.known }

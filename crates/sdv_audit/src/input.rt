@@ -1,7 +1,7 @@
 //! Texts up to a line feed.
 
 ghost use Rattle.std.specs.Prelude.{◌≡◌};
-ghost use Rattle.sdv_audit.specs.Input.{ReadsByte, ReadsText};
+ghost use Rattle.sdv_audit.specs.Input.{ReadsByte, ReadsText, is_over};
 
 use arrayvec::ArrayVec;
 use std::io::Read;
@@ -62,5 +62,15 @@ pub fn read_text<R: Read>(reader: &mut R, text: &mut LineBytes) -> Result<TextEn
         Some(b'\n') => Ok(TextEnd::Feed),
         Some(_) => Err(TextFault::Long),
         None => Ok(TextEnd::End),
+    }
+}
+
+/// Nothing stands behind the last line feed.
+pub fn is_over(end: TextEnd, text: &[u8]) -> bool
+    ensures { result ≡ is_over end text.now }
+{
+    match end {
+        TextEnd::Feed => false,
+        TextEnd::End => text.is_empty(),
     }
 }

@@ -4,8 +4,8 @@
 //! Begin at `specs/Standing.antt`, which says where a card may stand after the lines of a trace, and at
 //! `specs/Audited.antt`, which says what an audit knows of it. `specs/Turns.antt` says how a line is understood,
 //! `specs/Possible.antt` which answers no card gives, and `specs/Carried.antt` which shapes may follow.
-//! `specs/Spelling.antt` and `specs/Reading.antt` have the text of a line, and a law ties the two. `audit_trace`
-//! reports a whole trace (`specs/Report.antt`).
+//! `specs/Spelling.antt` and `specs/Reading.antt` have the text of a line, and a law ties the two. `specs/Texts.antt`
+//! says which texts tell a line, and which number it has. `audit_trace` reports a whole trace (`specs/Report.antt`).
 //!
 //! - `Audit::next` carries the audit over a line; if memory is refused, or more than 4,096 different shapes follow
 //!   (`Room`), nothing changes.
@@ -39,6 +39,7 @@ mod shapes;
 mod spelling;
 mod style;
 mod table;
+mod texts;
 mod trace;
 mod turn;
 mod words;

@@ -1,11 +1,12 @@
 //! The notes on the lines of a trace: which there are, and how each is printed around its words.
 
 ghost use Rattle.std.specs.Prelude.{◌≡◌, ◌++◌, IfOk, OnOk, ℕ, List};
-ghost use Rattle.sdv_audit.specs.Notes.{HasNotes, count_and, end_front, end_note, ending, is_noted, json_summary, lead, name, note_end, note_front, note_if, note_text, notes_at, plain_summary, shown, summary};
+ghost use Rattle.sdv_audit.specs.Notes.{HasNotes, count_and, end_front, end_note, ending, is_noted, json_findings, json_rest, json_summary, lead, lost_note, name, note_end, note_front, note_if, note_text, notes_at, plain_findings, plain_rest, plain_summary, shown, summary};
 
 use crate::audit::Findings;
 use crate::line::TraceLine;
 use crate::style::{Style, Tally, is_other_length, is_outside};
+use crate::texts::Count;
 use crate::words::{Before, words};
 use sdv_telling::{Text, put, put_all, put_number, put_numbered, put_quoted};
 use sdv_trace::LineBytes;
@@ -52,6 +53,8 @@ const NO_CARD: &str = "no card answers so";
 const NO_HOST: &str = "no host of the tables makes this phase";
 
 const BEYOND_THE: &str = "beyond the ";
+
+const NOT_FOLLOWED: &str = "lines before it that are not followed: ";
 
 impl Topic {
     /// The name of the finding in JSON.
@@ -201,64 +204,101 @@ fn put_counted(text: &mut Text, number: u64, words: &str) -> Result<(), AllocErr
     put(text, words)
 }
 
-fn put_plain_summary(text: &mut Text, tally: Tally) -> Result<(), AllocError>
-    ensures { OnOk result (text.new.items ≡ text.old.items ++ plain_summary tally) }
+fn put_plain_findings(text: &mut Text, tally: Tally) -> Result<(), AllocError>
+    ensures { OnOk result (text.new.items ≡ text.old.items ++ plain_findings tally) }
 {
     put_counted(text, tally.lines, " lines, ")?;
     put_counted(text, tally.reckless, " reckless, ")?;
     put_counted(text, tally.unanswered, " that no card answers, ")?;
     put_counted(text, tally.lengths, " of another length, ")?;
-    put_counted(text, tally.beyond, " beyond the capacity, ")?;
-    put_counted(text, tally.outside, " outside\n")
+    put_counted(text, tally.beyond, " beyond the capacity, ")
 }
 
-fn put_json_summary(text: &mut Text, tally: Tally) -> Result<(), AllocError>
-    ensures { OnOk result (text.new.items ≡ text.old.items ++ json_summary tally) }
+fn put_plain_rest(text: &mut Text, tally: Tally, left_out: u64) -> Result<(), AllocError>
+    ensures { OnOk result (text.new.items ≡ text.old.items ++ plain_rest tally left_out) }
+{
+    put_counted(text, tally.outside, " outside, ")?;
+    put_counted(text, tally.lost, " not followed, ")?;
+    put_counted(text, left_out, " left out\n")
+}
+
+fn put_plain_summary(text: &mut Text, tally: Tally, left_out: u64) -> Result<(), AllocError>
+    ensures { OnOk result (text.new.items ≡ text.old.items ++ plain_summary tally left_out) }
+{
+    put_plain_findings(text, tally)?;
+    put_plain_rest(text, tally, left_out)
+}
+
+fn put_json_findings(text: &mut Text, tally: Tally) -> Result<(), AllocError>
+    ensures { OnOk result (text.new.items ≡ text.old.items ++ json_findings tally) }
 {
     put(text, "{\"lines\":")?;
     put_counted(text, tally.lines, ",\"reckless\":")?;
     put_counted(text, tally.reckless, ",\"unanswered\":")?;
     put_counted(text, tally.unanswered, ",\"lengths\":")?;
     put_counted(text, tally.lengths, ",\"beyond\":")?;
-    put_counted(text, tally.beyond, ",\"outside\":")?;
-    put_counted(text, tally.outside, "}\n")
+    put_counted(text, tally.beyond, ",\"outside\":")
+}
+
+fn put_json_rest(text: &mut Text, tally: Tally, left_out: u64) -> Result<(), AllocError>
+    ensures { OnOk result (text.new.items ≡ text.old.items ++ json_rest tally left_out) }
+{
+    put_counted(text, tally.outside, ",\"not_followed\":")?;
+    put_counted(text, tally.lost, ",\"left_out\":")?;
+    put_counted(text, left_out, "}\n")
+}
+
+fn put_json_summary(text: &mut Text, tally: Tally, left_out: u64) -> Result<(), AllocError>
+    ensures { OnOk result (text.new.items ≡ text.old.items ++ json_summary tally left_out) }
+{
+    put_json_findings(text, tally)?;
+    put_json_rest(text, tally, left_out)
 }
 
 /// Adds the summary.
-fn put_summary(text: &mut Text, style: Style, tally: Tally) -> Result<(), AllocError>
-    ensures { OnOk result (text.new.items ≡ text.old.items ++ summary style tally) }
+fn put_summary(text: &mut Text, style: Style, tally: Tally, left_out: u64) -> Result<(), AllocError>
+    ensures { OnOk result (text.new.items ≡ text.old.items ++ summary style tally left_out) }
 {
     if style.json {
-        put_json_summary(text, tally)
+        put_json_summary(text, tally, left_out)
     } else {
-        put_plain_summary(text, tally)
+        put_plain_summary(text, tally, left_out)
     }
 }
 
-/// Adds what stands before the states behind the last line.
-fn put_end_front(text: &mut Text, style: Style, lines: u64) -> Result<(), AllocError>
-    ensures { OnOk result (text.new.items ≡ text.old.items ++ end_front style lines) }
+/// Adds what stands before the words of a note behind the last line, by its name.
+fn put_end_front(text: &mut Text, style: Style, name: &str, last: u64) -> Result<(), AllocError>
+    ensures { OnOk result (text.new.items ≡ text.old.items ++ end_front style name.now last) }
 {
     if !style.json {
         return put(text, "at the end: ");
     }
-    put_numbered(
-        text,
-        "{\"line\":",
-        lines,
-        ",\"told\":\"\",\"finding\":\"end\",\"text\":\"",
-    )
+    put_numbered(text, "{\"line\":", last, ",\"told\":\"\",\"finding\":\"")?;
+    put_all(text, &[name, "\",\"text\":\""])
 }
 
 /// Adds the states behind the last line in these words, where states are asked for.
-fn put_end_note(text: &mut Text, style: Style, lines: u64, words: &[u8]) -> Result<(), AllocError>
-    ensures { OnOk result (text.new.items ≡ text.old.items ++ end_note style lines words.now) }
+fn put_end_note(text: &mut Text, style: Style, last: u64, words: &[u8]) -> Result<(), AllocError>
+    ensures { OnOk result (text.new.items ≡ text.old.items ++ end_note style last words.now) }
 {
     if !style.annotate {
         return Ok(());
     }
-    put_end_front(text, style, lines)?;
+    put_end_front(text, style, "end", last)?;
     put_quoted(text, words)?;
+    put(text, note_end(style))
+}
+
+/// Adds how many lines before the end are not followed, where there is one.
+fn put_lost_note(text: &mut Text, style: Style, last: u64, stretch: u64) -> Result<(), AllocError>
+    ensures { OnOk result (text.new.items ≡ text.old.items ++ lost_note style last stretch) }
+{
+    if stretch == 0 {
+        return Ok(());
+    }
+    put_end_front(text, style, "not_followed", last)?;
+    put(text, NOT_FOLLOWED)?;
+    put_number(text, stretch)?;
     put(text, note_end(style))
 }
 
@@ -266,11 +306,13 @@ fn put_end_note(text: &mut Text, style: Style, lines: u64, words: &[u8]) -> Resu
 pub fn put_ending(
     text: &mut Text,
     style: Style,
+    count: Count,
     tally: Tally,
     words: &[u8],
 ) -> Result<(), AllocError>
-    ensures { OnOk result (text.new.items ≡ text.old.items ++ ending style tally words.now) }
+    ensures { OnOk result (text.new.items ≡ text.old.items ++ ending style count tally words.now) }
 {
-    put_end_note(text, style, tally.lines, words)?;
-    put_summary(text, style, tally)
+    put_end_note(text, style, count.last, words)?;
+    put_lost_note(text, style, count.last, tally.stretch)?;
+    put_summary(text, style, tally, count.left_out)
 }

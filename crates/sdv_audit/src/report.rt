@@ -9,7 +9,8 @@ use crate::audit::{Audit, Findings};
 use crate::fault::NoteFault;
 use crate::line::TraceLine;
 use crate::notes::{Place, TOPICS, notes_text, put_ending};
-use crate::style::{Style, Tally, counted};
+use crate::style::{Style, Tally};
+use crate::texts::Count;
 use crate::turn::{Deed, Told, Turn};
 use crate::words::{Before, put_standing};
 use sdv_card::{Answer, Event};
@@ -67,18 +68,19 @@ impl Report {
             csd_line: self.csd_line,
             bounded: self.audit.is_bounded(),
             behind: self.tally.outside != 0,
+            stretch: self.tally.stretch,
             states,
         }
     }
 
-    /// Takes in a line, and writes the notes on it.
-    pub fn take<W: Write>(&mut self, told: &Told, out: &mut W) -> Result<(), NoteFault>
+    /// Takes in a line with its number, and writes the notes on it.
+    pub fn take<W: Write>(&mut self, number: u64, told: &Told, out: &mut W) -> Result<(), NoteFault>
         ensures kind { self.new.kind ≡ self.old.kind }
         ensures style { self.new.style ≡ self.old.style }
         ensures course { OnOk result ((p : Progress) → ReportAt self.old p →
             ReportAt self.new (progress_after self.old.kind self.old.style p told.now)) }
         ensures written { OnOk result ((p : Progress) → ReportAt self.old p →
-            AddsNotes self.old.style (line_notes self.old.kind self.old.style p told.now)
+            AddsNotes self.old.style (line_notes self.old.kind self.old.style p number told.now)
             (W.contents out.old) (W.contents out.new)) }
         ensures room { IfErr result (λ fault. fault ≡ NoteFault.Room → (p : Progress) → ReportAt self.old p →
             AreMany (May (progress_after self.old.kind self.old.style p told.now).course.shapes)) }
@@ -86,15 +88,17 @@ impl Report {
         let at = Place {
             alloc: self.alloc,
             style: self.style,
-            number: counted(true, self.tally.lines),
+            number,
             line: &told.line,
         };
         let states = self.states()?;
         let before = self.before(&states);
+        let waits = self.audit.waits();
         let found = self.audit.next(told)?;
         let text = notes_text(at, &found, &before, &TOPICS)?;
         self.csd_line = csd_line_after(at.number, &found, &told.line, self.csd_line);
-        self.tally = self.tally.after(self.style.numbers(&told.line), &found);
+        let numbered = self.style.numbers(&told.line);
+        self.tally = self.tally.after(numbered, waits, &found);
         match write_text(out, text.as_slice()) {
             Ok(()) => Ok(()),
             Err(_) => Err(NoteFault::Write),
@@ -102,13 +106,14 @@ impl Report {
     }
 
     /// Writes what stands behind the notes on all lines.
-    pub fn finish<W: Write>(&self, out: &mut W) -> Result<(), NoteFault>
-        ensures written { OnOk result (AddsEnding self.now.style self.now.tally (W.contents out.old) (W.contents out.new)) }
+    pub fn finish<W: Write>(&self, count: Count, out: &mut W) -> Result<(), NoteFault>
+        ensures written { OnOk result (AddsEnding self.now.style count self.now.tally
+            (W.contents out.old) (W.contents out.new)) }
         ensures room { IfErr result (λ fault. fault ≢ NoteFault.Room) }
     {
         let states = self.states()?;
         let mut text = Vec::new(self.alloc);
-        put_ending(&mut text, self.style, self.tally, &states)?;
+        put_ending(&mut text, self.style, count, self.tally, &states)?;
         match write_text(out, text.as_slice()) {
             Ok(()) => Ok(()),
             Err(_) => Err(NoteFault::Write),

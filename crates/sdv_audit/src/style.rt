@@ -1,7 +1,7 @@
 //! How a report is printed, and what it counts.
 
 ghost use Rattle.std.specs.Prelude.{◌≡◌};
-ghost use Rattle.sdv_audit.specs.Notes.{is_reckless, is_outside, is_other_length, counted, has_number, tally_after, no_tally, has_findings};
+ghost use Rattle.sdv_audit.specs.Notes.{is_reckless, is_outside, is_other_length, counted, has_number, is_lost, stretch_after, tally_after, no_tally, has_findings};
 
 use crate::audit::Findings;
 use crate::line::TraceLine;
@@ -45,6 +45,10 @@ pub struct Tally {
     pub beyond: u64,
     /// Those outside the tables.
     pub outside: u64,
+    /// Those that are not followed, since no state of a card was left.
+    pub lost: u64,
+    /// Those of them behind which none is followed yet.
+    pub stretch: u64,
 }
 
 impl Tally {
@@ -59,13 +63,16 @@ impl Tally {
             lengths: 0,
             beyond: 0,
             outside: 0,
+            lost: 0,
+            stretch: 0,
         }
     }
 
-    /// After one line more.
-    pub(crate) fn after(&self, numbered: bool, found: &Findings) -> Tally
-        ensures { result ≡ tally_after numbered found.now self.now }
+    /// After one line more, where the audit waited for a CMD0 or not.
+    pub(crate) fn after(&self, numbered: bool, waits: bool, found: &Findings) -> Tally
+        ensures { result ≡ tally_after numbered waits found.now self.now }
     {
+        let lost = is_lost(waits, found);
         Tally {
             lines: counted(numbered, self.lines),
             reckless: counted(found.reckless.is_some(), self.reckless),
@@ -79,6 +86,8 @@ impl Tally {
             ),
             beyond: counted(found.beyond, self.beyond),
             outside: counted(is_outside(&found.turn), self.outside),
+            lost: counted(lost && numbered, self.lost),
+            stretch: stretch_after(lost, numbered, self.stretch),
         }
     }
 
@@ -88,6 +97,20 @@ impl Tally {
     {
         self.reckless != 0 || self.unanswered != 0 || self.lengths != 0 || self.beyond != 0
     }
+}
+
+/// The line is not followed.
+fn is_lost(waits: bool, found: &Findings) -> bool
+    ensures { result ≡ is_lost waits found.now }
+{
+    waits && !found.restarted
+}
+
+/// How many lines of a stretch are not followed.
+fn stretch_after(lost: bool, numbered: bool, stretch: u64) -> u64
+    ensures { result ≡ stretch_after lost numbered stretch }
+{
+    if lost { counted(numbered, stretch) } else { 0 }
 }
 
 /// A count, and one more if there is one.

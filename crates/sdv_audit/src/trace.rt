@@ -2,16 +2,16 @@
 
 ghost use Rattle.std.specs.Prelude.{◌≡◌, ◌++◌, ℕ, List, [], ◌∷◌, IfErr, OnOk, Option, None, Some};
 ghost use Rattle.sdv_registers.specs.declared.kind.Kind.{Kind as CardKind};
-ghost use Rattle.sdv_audit.specs.declared.line.TraceLine.{TraceLine as Line};
 ghost use Rattle.sdv_audit.specs.declared.style.Style.{Style as ReportStyle};
-ghost use Rattle.sdv_audit.specs.AuditedTrace.{Written, Finished, StopsAt, StopsReading, EndsReport, NoRoom, Audits};
+ghost use Rattle.sdv_audit.specs.declared.texts.Numbered.{Numbered as NumberedLine};
+ghost use Rattle.sdv_audit.specs.Texts.{Trace, with_said};
+ghost use Rattle.sdv_audit.specs.AuditedTrace.{Written, Waits, Finished, StopsAt, StopsReading, EndsReport, NoRoom, LacksRoom, Audits};
 
 use crate::fault::{NoteFault, TraceFault, TraceLineFault};
-use crate::input::{LineBytes, TextEnd, TextFault, read_text};
-use crate::line::TraceLine;
-use crate::reading::read_line;
+use crate::input::{LineBytes, TextEnd, TextFault, is_over, read_text};
 use crate::report::Report;
 use crate::style::{Style, Tally, counted};
+use crate::texts::{Count, Numbered, Said, read_said};
 use crate::turn::Told;
 use sdv_registers::Kind;
 use std::alloc::Global;
@@ -21,27 +21,29 @@ use std::io::{Read, Write};
 #[derive(Drop)]
 pub struct Pending {
     report: Report,
-    held: Option<TraceLine>,
+    held: Option<Numbered>,
+    count: Count,
 }
 
 impl Pending {
     /// Takes in a line, and writes the notes on the one before it.
-    fn push<W: Write>(&mut self, line: TraceLine, out: &mut W) -> Result<(), NoteFault>
-        ensures written { OnOk result ((k : CardKind) (style : ReportStyle) (read : List Line) (old : Option (List ℕ)) →
+    fn hold<W: Write>(&mut self, line: Numbered, out: &mut W) -> Result<(), NoteFault>
+        ensures count { self.new.count ≡ self.old.count }
+        ensures written { OnOk result ((k : CardKind) (style : ReportStyle) (read : List NumberedLine) (old : Option (List ℕ)) →
             Written self.old.report self.old.held k style read old (W.contents out.old) →
             Written self.new.report self.new.held k style (read ++ line ∷ []) old (W.contents out.new)) }
         ensures room { IfErr result (λ fault. fault ≡ NoteFault.Room →
-            (k : CardKind) (style : ReportStyle) (read : List Line) (old : Option (List ℕ)) →
+            (k : CardKind) (style : ReportStyle) (read : List NumberedLine) (old : Option (List ℕ)) →
             Written self.old.report self.old.held k style read old (W.contents out.old) →
-            NoRoom k style read (Some line)) }
+            NoRoom k style read (Some line.line)) }
     {
         match self.held {
             Some(before) => {
                 let told = Told {
-                    line: before,
-                    next: Some(line),
+                    line: before.line,
+                    next: Some(line.line),
                 };
-                self.report.take(&told, out)?;
+                self.report.take(before.number, &told, out)?;
             }
             None => {}
         }
@@ -49,57 +51,76 @@ impl Pending {
         Ok(())
     }
 
+    /// Takes in what a text says.
+    fn push<W: Write>(&mut self, said: Said, out: &mut W) -> Result<(), NoteFault>
+        ensures waits { OnOk result ((k : CardKind) (style : ReportStyle) (trace : Trace) (old : Option (List ℕ)) →
+            Waits self.old k style trace old (W.contents out.old) →
+            Waits self.new k style (with_said style said trace) old (W.contents out.new)) }
+        ensures room { IfErr result (λ fault. fault ≡ NoteFault.Room →
+            (k : CardKind) (style : ReportStyle) (trace : Trace) (old : Option (List ℕ)) →
+            Waits self.old k style trace old (W.contents out.old) →
+            LacksRoom k style trace.lines) }
+    {
+        let number = counted(true, self.count.last);
+        self.count = self.count.after(self.report.style, &said);
+        match said {
+            Said::Line(line) => self.hold(Numbered { number, line }, out),
+            Said::Comment { .. } => Ok(()),
+        }
+    }
+
     /// Writes the notes on the last line.
     fn finish<W: Write>(&mut self, out: &mut W) -> Result<(), NoteFault>
+        ensures count { self.new.count ≡ self.old.count }
         ensures finished { OnOk result (
-            (k : CardKind) (style : ReportStyle) (read : List Line) (old : Option (List ℕ)) →
+            (k : CardKind) (style : ReportStyle) (read : List NumberedLine) (old : Option (List ℕ)) →
             Written self.old.report self.old.held k style read old (W.contents out.old) →
             Finished self.new.report k style read old (W.contents out.new)) }
         ensures room { IfErr result (λ fault. fault ≡ NoteFault.Room →
-            (k : CardKind) (style : ReportStyle) (read : List Line) (old : Option (List ℕ)) →
+            (k : CardKind) (style : ReportStyle) (read : List NumberedLine) (old : Option (List ℕ)) →
             Written self.old.report self.old.held k style read old (W.contents out.old) →
             NoRoom k style read None) }
     {
         match self.held {
             Some(last) => {
                 let told = Told {
-                    line: last,
+                    line: last.line,
                     next: None,
                 };
-                self.report.take(&told, out)
+                self.report.take(last.number, &told, out)
             }
             None => Ok(()),
         }
     }
 }
 
-/// Writes the notes on the last line, and tells why the next one is none.
+/// Writes the notes on the last line, and tells why the next text says nothing.
 fn stop_at<W: Write>(
     pending: &mut Pending,
     fault: TraceLineFault,
     out: &mut W,
 ) -> Result<Tally, TraceFault>
-    ensures { (k : CardKind) (style : ReportStyle) (read : List Line) (old : Option (List ℕ)) →
-        Written pending.old.report pending.old.held k style read old (W.contents out.old) →
-        StopsAt k style read old (W.contents out.new) fault result }
+    ensures { (k : CardKind) (style : ReportStyle) (trace : Trace) (old : Option (List ℕ)) →
+        Waits pending.old k style trace old (W.contents out.old) →
+        StopsAt k style trace old (W.contents out.new) fault result }
 {
+    let line = counted(true, pending.count.last);
     pending.finish(out)?;
-    let line = counted(true, pending.report.tally.lines);
     Err(TraceFault::Line { fault, line })
 }
 
-/// Writes the notes on the last line, and tells why the next one was not read.
+/// Writes the notes on the last line, and tells why the next text was not read.
 fn stop_reading<W: Write>(
     pending: &mut Pending,
     fault: TextFault,
     out: &mut W,
 ) -> Result<Tally, TraceFault>
-    ensures { (k : CardKind) (style : ReportStyle) (read : List Line) (old : Option (List ℕ)) →
-        Written pending.old.report pending.old.held k style read old (W.contents out.old) →
-        StopsReading k style read old (W.contents out.new) fault result }
+    ensures { (k : CardKind) (style : ReportStyle) (trace : Trace) (old : Option (List ℕ)) →
+        Waits pending.old k style trace old (W.contents out.old) →
+        StopsReading k style trace old (W.contents out.new) fault result }
 {
+    let line = counted(true, pending.count.last);
     pending.finish(out)?;
-    let line = counted(true, pending.report.tally.lines);
     match fault {
         TextFault::Long => Err(TraceFault::Length { line }),
         TextFault::Read => Err(TraceFault::Read),
@@ -108,12 +129,13 @@ fn stop_reading<W: Write>(
 
 /// Writes the notes on the last line, and what stands behind them.
 fn end_report<W: Write>(pending: &mut Pending, out: &mut W) -> Result<Tally, TraceFault>
-    ensures { (k : CardKind) (style : ReportStyle) (read : List Line) (old : Option (List ℕ)) →
-        Written pending.old.report pending.old.held k style read old (W.contents out.old) →
-        EndsReport k style read old (W.contents out.new) result }
+    ensures { (k : CardKind) (style : ReportStyle) (trace : Trace) (old : Option (List ℕ)) →
+        Waits pending.old k style trace old (W.contents out.old) →
+        EndsReport k style trace old (W.contents out.new) result }
 {
+    let count = pending.count;
     pending.finish(out)?;
-    pending.report.finish(out)?;
+    pending.report.finish(count, out)?;
     Ok(pending.report.tally)
 }
 
@@ -122,7 +144,7 @@ fn end_report<W: Write>(pending: &mut Pending, out: &mut W) -> Result<Tally, Tra
 ///
 /// # Errors
 ///
-/// - [`TraceFault::Line`] and [`TraceFault::Length`]: a line is none of a trace. The notes on those before it are written.
+/// - [`TraceFault::Line`] and [`TraceFault::Length`]: a text is no line of a trace and no comment. The notes on those before it are written.
 /// - [`TraceFault::Read`]: the reader failed. The notes on the lines that were read are written.
 /// - [`TraceFault::Write`], [`TraceFault::Memory`] and [`TraceFault::Room`]. A part of the notes is written.
 pub fn audit_trace<R: Read, W: Write>(
@@ -138,6 +160,7 @@ pub fn audit_trace<R: Read, W: Write>(
     let mut pending = Pending {
         report: Report::new(alloc, kind, style)?,
         held: None,
+        count: Count::nothing(),
     };
     let mut text = LineBytes::new();
     for _ in 0..u64::MAX {
@@ -145,12 +168,11 @@ pub fn audit_trace<R: Read, W: Write>(
             Ok(end) => end,
             Err(fault) => return stop_reading(&mut pending, fault, out),
         };
-        match end {
-            TextEnd::End if text.is_empty() => return end_report(&mut pending, out),
-            _ => {}
+        if is_over(end, text.as_slice()) {
+            return end_report(&mut pending, out);
         }
-        match read_line(text.as_slice()) {
-            Ok(line) => pending.push(line, out)?,
+        match read_said(text.as_slice()) {
+            Ok(told) => pending.push(told, out)?,
             Err(fault) => return stop_at(&mut pending, fault, out),
         }
         match end {

@@ -23,6 +23,8 @@ pub struct Before<'a> {
     pub bounded: bool,
     /// A line outside the tables was among the lines.
     pub behind: bool,
+    /// The lines right before it that are not followed.
+    pub stretch: u64,
     /// The states in which a card may be, in words, where they are asked for.
     pub states: &'a [u8],
 }
@@ -38,7 +40,11 @@ pub fn words(
     let mut text = Vec::new(alloc);
     match topic {
         Topic::States => text.extend_from_slice(before.states)?,
-        Topic::Anew | Topic::Outside => return Ok(text),
+        Topic::Outside => return Ok(text),
+        Topic::Anew => {
+            put_stretch(&mut text, before.stretch)?;
+            return Ok(text);
+        }
         Topic::Reckless => put_reckless(&mut text, found.reckless, before.bounded)?,
         Topic::Unanswered => put_line_answer(&mut text, line)?,
         Topic::Length => put_due(&mut text, &found.turn)?,
@@ -48,6 +54,19 @@ pub fn words(
         put(&mut text, " (a line outside the tables came before it)")?;
     }
     Ok(text)
+}
+
+/// Adds how many lines before this one are not followed.
+fn put_stretch(text: &mut Text, stretch: u64) -> Result<(), AllocError> {
+    if stretch == 0 {
+        return Ok(());
+    }
+    put_numbered(
+        text,
+        "; lines before it that are not followed: ",
+        stretch,
+        "",
+    )
 }
 
 /// Adds the shape at which a card may stand, and what the verdict rests on where it is not sure.

@@ -1,4 +1,4 @@
-use Rattle.std.proofs.Common.{◌++◌, ◌+◌, List, drop, get_or, subst, sym}
+use Rattle.std.proofs.Common.{◌++◌, ◌+◌, List, drop, subst, sym}
 use Rattle.std.proofs.Math.ListN.{drop_of_length-le}
 use Rattle.sdv_telling.specs.Statements.{Text}
 use Rattle.sdv_audit.specs.declared.notes.Topic.{Topic}

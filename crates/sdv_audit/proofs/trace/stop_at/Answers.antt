@@ -6,12 +6,13 @@ use Rattle.sdv_audit.proofs.TraceLaws.{stops_at_note}
 use Rattle.sdv_audit.proofs.trace.stop_at.Goals as goal
 
 pub returns : goal.returns
-returns g c k style read old wr =
-    let f : Finished c.finish.new.self.report k style read old (g.W.Write.contents c.finish.new.out) = c.in_ok-finish.ensures.finished k style read old wr in
-    (refl, c.counted-line.ensures ∙ ap (λ t. counted true t.lines) f.at.tally, f.written_is)
+returns g c k style trace old w =
+    let f : Finished c.finish.new.self.report k style trace.lines old (g.W.Write.contents c.finish.new.out) =
+    c.in_ok-finish.ensures.finished k style trace.lines old w.written in
+    (refl, c.counted-line.ensures ∙ ap (λ n. counted true n.last) w.count, f.written_is)
 
 pub returns-in_err-finish : goal.returns-in_err-finish
-returns-in_err-finish g c k style read old wr =
+returns-in_err-finish g c k style trace old w =
     let is : c.from_residual.result ≡ Err (fault_of_note c.in_err-finish.field-0.0) = search rules in
-    rw is (stops_at_note c.in_err-finish.field-0.0 k style read old (g.W.Write.contents c.finish.new.out) c.args.fault
-    (λ e. c.in_err-finish.ensures.room e k style read old wr))
+    rw is (stops_at_note c.in_err-finish.field-0.0 k style trace old (g.W.Write.contents c.finish.new.out) c.args.fault
+    (λ e. c.in_err-finish.ensures.room e k style trace.lines old w.written))

@@ -8,6 +8,6 @@ returns-in-Ok-clause-written g c = (
   c.deref.result.now,
   subst (λ v. Appends (g.W.Write.contents c.args.out.now) (g.W.Write.contents c.write_text.new.out) v)
       (c.as_slice.ensures.value ∙ (c.in_ok-put_ending.ensures
-      ∙ ap (λ v. v ++ ending c.args.self.now.style c.args.self.now.tally c.deref.result.now) c.new-text.ensures.items))
+      ∙ ap (λ v. v ++ ending c.args.self.now.style c.args.count c.args.self.now.tally c.deref.result.now) c.new-text.ensures.items))
       c.in-Ok.ensures,
 )

@@ -2,7 +2,7 @@ use Rattle.std.proofs.Common.{◌≡◌, ◌∙◌, Err, ap, rules, subst}
 use Rattle.std.specs.Io.KnownBytes.{Appends}
 use Rattle.sdv_audit.specs.Course.{IsAt, course_after, found_at}
 use Rattle.sdv_audit.specs.Faults.{fault_of_audit}
-use Rattle.sdv_audit.specs.Notes.{tally_after}
+use Rattle.sdv_audit.specs.Notes.{has_number, tally_after}
 use Rattle.sdv_audit.proofs.ReportLaws.{notes_same, report_after, take_room}
 use Rattle.sdv_audit.proofs.report.Report.take.Goals as goal
 
@@ -21,13 +21,15 @@ returns-in-Ok-clause-course g c p at =
     (c.in_ok-found.ensures.found p.course at.course ∙ ap (λ v. found_at v c.args.told.now p.course) at.kind)
     (c.in_ok-found.ensures.kind ∙ at.kind)
     (subst (λ v. IsAt c.next.new.self (course_after v c.args.told.now p.course)) at.kind (c.in_ok-found.ensures.course p.course at.course))
-    (c.after-self.ensures ∙ ap (λ b. tally_after b c.in_ok-found.found c.args.self.now.tally) c.numbers.ensures)
+    (c.after-self.ensures
+    ∙ (ap (λ b. tally_after b c.waits-waits.result c.in_ok-found.found c.args.self.now.tally) c.numbers-numbered.ensures
+    ∙ ap (λ b. tally_after (has_number c.args.self.now.style c.args.told.now.line) b c.in_ok-found.found c.args.self.now.tally) c.waits-waits.ensures))
 
 pub returns-in-Ok-clause-written : goal.returns-in-Ok-clause-written
 returns-in-Ok-clause-written g c p at = (
   c.in_ok-text.text.items,
-  notes_same c.args.self.now.kind c.args.self.now.style c.args.self.now p c.args.told.now c.in_ok-found.found c.counted.result c.in_ok-text.text.items at
-      (c.in_ok-found.ensures.found p.course at.course ∙ ap (λ v. found_at v c.args.told.now p.course) at.kind) c.counted.ensures c.in_ok-text.ensures,
+  notes_same c.args.self.now.kind c.args.self.now.style p c.args.told.now c.in_ok-found.found c.args.number c.in_ok-text.text.items
+      (c.in_ok-found.ensures.found p.course at.course ∙ ap (λ v. found_at v c.args.told.now p.course) at.kind) c.in_ok-text.ensures,
   subst (λ v. Appends (g.W.Write.contents c.args.out.now) (g.W.Write.contents c.write_text.new.out) v) c.as_slice.ensures.value c.in-Ok.ensures,
 )
 
