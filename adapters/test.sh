@@ -225,10 +225,16 @@ end 1 cmd_opcode=38 cmd_resp=0x900,0x0,0x0,0x0
 start 1 cmd_opcode=7 cmd_flags=0x0
 end 1 cmd_opcode=7
 =
+# left out: CMD52 00000c00 timeout: no script can name it
+# left out: CMD52 80000c08 timeout: no script can name it
 CMD0 00000000 -
 CMD8 000001aa R7 000001aa
+# left out: CMD5 00000000 timeout: no script can name it
+# left out: CMD55 00000000 R1 00400120: before an inquiry
+# left out: CMD41 00000000 R3 00ff8000: an inquiry
 CMD55 00000000 timeout
 CMD55 00000000 R1 00000120
+# changed: CMD41 40300000 R3 c0ff8000: another voltage window
 CMD41 40ff8000 R3 c0ff8000
 CMD2 00000000 R2 aa585951454d552101deadbeef0062
 CMD3 00000000 R6 12340500
@@ -238,8 +244,10 @@ CMD55 12340000 R1 00000920
 CMD51 00000000 R1 00000920
 REG 8 ok
 CMD55 12340000 R1 00000920
+# changed: CMD13 00000000 R1 00000920: bits at which the card does not look
 CMD13 12340000 R1 00000920
 REG 64 ok
+# left out: CMD6 00fffff0 R1 00000900: no script can name it
 CMD55 12340000 R1 00000920
 CMD6 00000002 R1 00000920
 LINES 4
@@ -254,6 +262,9 @@ CMD13 12340000 R1 00000900
 CMD25 000003e9 R1 00000900
 OUT 64 ok
 CMD12 00000000 R1 00000d00
+# left out: CMD55 12340000 R1 00000920: before ACMD22
+# left out: CMD22 00000000 R1 00000920: no script can name it
+# left out: CMD63 00000000 timeout: no script can name it
 CMD32 00000010 R1 00000900
 CMD33 0000008f R1 00000900
 CMD38 00000000 R1 00000900
@@ -293,7 +304,9 @@ end 1 cmd_opcode=0 cmd_err=-22
 start 1 cmd_opcode=13 cmd_arg=0x12340000 cmd_flags=0x195
 =
 CMD17 00000008 timeout
+# changed: CMD17 00000008: its answer was damaged
 CMD17 00000008 timeout
+# changed: CMD13 12340000: error -5
 CMD13 12340000 timeout
 CMD17 00000008 R1 00000900
 IN 1 cut
@@ -305,6 +318,8 @@ CMD12 00000000 R1 00000b00
 CMD25 00000008 R1 00000900
 OUT 8 cut
 CMD12 00000000 R1 00000d00
+# left out: CMD24 00000008: not sent: error -123
+# left out: CMD0 00000000: not sent: error -22
 =
 CMD17 stands as not answered: its answer was damaged (line 4)
 CMD13 stands as not answered: error -5 (line 6)
@@ -368,8 +383,14 @@ start 1 cmd_opcode=0 cmd_flags=0xc0
 end 1 cmd_opcode=0
 =
 CMD0 00000000 -
+# left out: CMD8 000001aa timeout: no script can name it
+# left out: CMD5 00000000 timeout: no script can name it
+# left out: CMD55 00000000 timeout: no script can name it
+# left out: CMD1 00000000 R3 40ff8080: an inquiry
 CMD0 00000000 -
+# changed: CMD1 40200080 R3 40ff8080: another voltage window
 CMD1 40ff8080 R3 40ff8080
+# changed: CMD1 40200080 R3 c0ff8080: another voltage window
 CMD1 40ff8080 R3 c0ff8080
 CMD2 00000000 R2 000001585344564552454910000000
 CMD3 00010000 R1 00000500
@@ -377,21 +398,27 @@ CMD9 00010000 R2 d02f01320f5903ffffffffe7864000
 CMD7 00010000 R1 00000700
 CMD8 00000000 R1 00000900
 REG 512 ok
+# left out: CMD6 03b90101 R1 00000800: no script can name it
+# left out: CMD13 00010000 R1 00000e00: the card is at work on a command that is left out
 CMD13 00010000 R1 00000900
+# changed: CMD6 03b70201 R1 00000800: bits that do not count
 CMD6 03b70200 R1 00000800
 CMD13 00010000 R1 00000e00
 CMD13 00010000 R1 00000900
 LINES 8
+# changed: CMD6 03b70101 R1 00000800: bits that do not count
 CMD6 03b70100 R1 00000800
 CMD13 00010000 R1 00000980
 CMD23 00000008 R1 00000900
 CMD18 00000008 R1 00000900
 IN 8 ok
 CMD23 00000008 timeout
+# left out: CMD25 00000008: the CMD23 before it failed
 CMD23 00000008 R1 00000900
 CMD25 00000008 R1 00000900
 OUT 8 cut
 CMD12 00000000 R1 00000d00
+# left out: a transfer: of the command queue
 LINES 1
 CMD0 00000000 -
 =
@@ -418,17 +445,21 @@ end 2 cmd_opcode=25 cmd_resp=0x900,0x0,0x0,0x0 sbc_opcode=23 sbc_resp=0x900,0x0,
 start 2 cmd_opcode=18 cmd_arg=0x8 cmd_flags=0xb5 sbc_opcode=23 sbc_arg=0x8 sbc_flags=0x15 stop_opcode=12 stop_flags=0x95 blocks=8 block_size=512 data_flags=0x200
 end 2 cmd_opcode=18 cmd_err=-110 sbc_opcode=23 sbc_resp=0x900,0x0,0x0,0x0 stop_opcode=12
 =
+# left out: CMD23 00000008 R1 00000900: no script can name it
 CMD18 00000008 R1 00000900
 IN 8 ok
 CMD12 00000000 R1 00000b00
+# left out: CMD23 00000008 R1 00000900: no script can name it
 CMD25 00000008 R1 00000900
 OUT 8 ok
 CMD12 00000000 R1 00000d00
 WAIT ok
+# left out: CMD23 00000008 R1 00000900: no script can name it
 CMD25 00000008 R1 00000900
 OUT 8 cut
 CMD12 00000000 R1 00000d00
 WAIT ok
+# left out: CMD23 00000008 R1 00000900: no script can name it
 CMD18 00000008 timeout
 =
 left out: CMD23 (line 2, 4 times)
@@ -454,11 +485,18 @@ start 1 cmd_opcode=6 cmd_arg=0x3b70601 cmd_flags=0x49d
 end 1 cmd_opcode=6 cmd_resp=0x800,0x0,0x0,0x0
 =
 CMD13 00010000 timeout
+# changed: CMD3 00020000 R1 00000500: another relative address
 CMD3 00010000 R1 00000500
+# changed: CMD7 00020000 R1 00000700: another relative address
 CMD7 00010000 R1 00000700
+# changed: CMD13 00010000 timeout: another relative address
 CMD13 00020000 timeout
+# changed: CMD6 03b34901 R1 00000800: bits that do not count
 CMD6 03b30100 R1 00000800
+# changed: CMD6 03b34801 R1 00000800: bits that do not count
 CMD6 03b30000 R1 00000800
+# left out: CMD6 03b30301 R1 00000800: no script can name it
+# left out: CMD6 03b70601 R1 00000800: no script can name it
 =
 CMD3 00020000 stands as CMD3 00010000 (line 4)
 CMD7 00020000 stands as CMD7 00010000 (line 6)
@@ -483,9 +521,11 @@ end 1 cmd_opcode=38 cmd_err=-110
 =
 CMD18 00000008 R1 00000900
 IN 8 ok
+# changed: CMD12 00000000: its answer is not recorded, and a status stands for it
 CMD12 00000000 R1 00000b00
 CMD25 00000008 R1 00000900
 OUT 8 ok
+# changed: CMD12 00000000: its answer is not recorded, and a status stands for it
 CMD12 00000000 R1 00000d00
 WAIT ok
 CMD24 00000008 R1 00000900
@@ -522,6 +562,7 @@ start 1 cmd_opcode=0 cmd_flags=0xc0
 end 1 cmd_opcode=0
 $2
 =
+# left out: CMD52 00000000 R1 00000000: no script can name it
 CMD0 00000000 -
 =
 line 5: $1
@@ -566,6 +607,7 @@ END
 takes "sigrok: no whole command" bits 1 sigrok-sdcard << 'END'
 130 4 010000000000000000000000000000000000000010010111
 =
+# left out: a command: a wrong CRC or end bit
 =
 left out: a command with a wrong CRC or end bit (line 48)
 no command with a right CRC found among the bits
@@ -632,7 +674,11 @@ takes "sigrok: an SD card" bits 0 sigrok-sdcard << 'END'
 =
 CMD0 00000000 -
 CMD8 000001aa R7 000001aa
+# left out: CMD5 00000000 timeout: no script can name it
+# left out: CMD55 00000000 R1 00400120: before an inquiry
+# left out: CMD41 00000000 R3 00ff8000: an inquiry
 CMD55 00000000 R1 00000120
+# changed: CMD41 51ff8000 R3 c0ff8000: another voltage window
 CMD41 40ff8000 R3 c0ff8000
 CMD2 00000000 R2 aa585951454d552101deadbeef0062
 CMD3 00000000 R6 12340500
@@ -659,6 +705,8 @@ OUT 1 ok
 CMD12 00000000 R1 00000d00
 CMD13 12340000 R1 00000e00
 CMD13 12340000 R1 00000900
+# left out: CMD63 00000005 R1 00000900: no script can name it
+# left out: CMD23 00000008 R1 00000900: no script can name it
 CMD7 00000000 -
 =
 left out: CMD5 (line 240)
@@ -698,14 +746,20 @@ takes "sigrok: faults" bits 0 sigrok-sdcard << 'END'
 =
 CMD0 00000000 -
 CMD2 00000000 timeout
+# changed: CMD2 00000000: its answer was damaged
 CMD2 00000000 timeout
 CMD9 12340000 timeout
 CMD13 12340000 R1 00000900
+# changed: CMD17 00000008: its answer was damaged
 CMD17 00000008 timeout
 CMD13 12340000 R1 00000b00
+# changed: CMD12 00000000: its answer was damaged
 CMD12 00000000 timeout
+# left out: a command: a wrong CRC or end bit
+# left out: an answer: no command before it
 CMD17 00000008 R1 00000900
 CMD13 12340000 R1 00000b00
+# left out: CMD12 00000000: no answer was captured
 =
 CMD2 stands as not answered: its answer was damaged (line 281)
 CMD17 stands as not answered: its answer was damaged (line 520)
@@ -745,6 +799,8 @@ takes "sigrok: an e.MMC device" bits 0 sigrok-sdcard --emmc << 'END'
 6802 4 010000000000000000000000000000000000000010010101
 =
 CMD0 00000000 -
+# left out: CMD1 00000000 R3 40ff8080: an inquiry
+# changed: CMD1 40200080 R3 c0ff8080: another voltage window
 CMD1 40ff8080 R3 c0ff8080
 CMD2 00000000 R2 aa585951454d552101deadbeef0062
 CMD3 00010000 R1 00000500
@@ -879,12 +935,24 @@ CMD7    00000000 -> (none)  (transfer)
 CMD7    00000000 -> 00000900  (transfer)
 CMD0    00000000 -> (none)  (transfer)
 =
+# left out: CMD52 00000c00 timeout: no script can name it
 CMD0 00000000 -
+# left out: CMD1 00000000 timeout: no script can name it
+# changed: CMD8 000001ff R7 000001ff: another check pattern
 CMD8 000001aa R7 000001aa
+# left out: CMD5 00000000 timeout: no script can name it
+# left out: CMD55 00000000 R1 00400120: before an inquiry
+# left out: CMD41 00000000 R3 00ffff00: an inquiry
+# left out: CMD55 00000000 R1 00000120: before an inquiry
+# left out: CMD41 40000000 R3 00ffff00: an inquiry
 CMD55 00000000 R1 00000120
+# changed: CMD41 40300000: [injected: not given to the card, answer made up]
+# changed: CMD41 40300000 R3 00ff8000: another voltage window
 CMD41 40ff8000 R3 00ff8000
+# changed: CMD55 00000000: [injected: not given to the card]
 CMD55 00000000 timeout
 CMD55 00000000 R1 00000120
+# changed: CMD41 00300000 R3 80ffff00: another voltage window
 CMD41 00ff8000 R3 80ffff00
 CMD2 00000000 R2 aa585951454d552101deadbeef0062
 CMD3 00000000 R6 12340500
@@ -897,29 +965,38 @@ CMD55 12340000 R1 00000920
 CMD51 00000000 R1 00000920
 REG 8 ok
 CMD55 12340000 R1 00000920
+# changed: CMD13 00000000 R1 00000920: bits at which the card does not look
 CMD13 12340000 R1 00000920
 REG 64 ok
+# left out: CMD6 00fffff0 R1 00000900: no script can name it
 CMD55 12340000 R1 00000920
 CMD6 00000002 R1 00000920
 LINES 4
+# left out: CMD55 12340000 R1 00000920: before ACMD22
+# left out: CMD22 00000000 R1 00000920: no script can name it
 CMD17 000003e9 R1 00000900
 IN 1 ok
 CMD18 000003e9 R1 00000900
 IN 1 ok
+# changed: CMD12 00000000: its answer is not in the capture, and a status stands for it
 CMD12 00000000 R1 00000b00
 CMD24 000003e9 R1 00000900
 OUT 1 ok
+# changed: CMD13 12340000: [injected: not given to the card]
 CMD13 12340000 timeout
 CMD13 12340000 R1 00000900
 CMD25 000003e9 R1 00000900
 OUT 1 ok
+# changed: CMD12 00000000: its answer is not in the capture, and a status stands for it
 CMD12 00000000 R1 00000d00
+# changed: CMD17 000003e9: [injected: bits 00200000 set]
 CMD17 000003e9 R1 00200900
 CMD13 12340000 R1 00000b00
 CMD12 00000000 R1 00000b00
 CMD24 000003e9 R1 00000900
 CMD13 12340000 R1 00000d00
 CMD7 00000000 -
+# changed: CMD7 00000000 R1 00000900: no card answers it
 CMD7 00000000 -
 LINES 1
 CMD0 00000000 -
@@ -963,20 +1040,30 @@ CMD12   12340000 -> 00000d00  (receivingdata)
 CMD13   12348000 -> 00000900  (transfer)
 CMD7    1234ffff -> 00000900  (transfer)
 =
+# changed: CMD8 000001ff R7 000001aa: another check pattern
 CMD8 000001aa R7 000001ff
+# changed: CMD8 000001ff R7 000001f0: another check pattern
 CMD8 000001aa R7 000001f0
+# changed: CMD55 00000000: [injected: not given to the card, answer made up]
 CMD55 00000000 R1 00000100
+# changed: CMD41 40000000 timeout: another voltage window
 CMD41 40ff8000 timeout
+# changed: CMD41 00000000 timeout: another voltage window
 CMD41 00ff8000 timeout
 CMD55 00000000 R1 00000120
+# left out: CMD1 00000000 timeout: no script can name it
 CMD51 00000000 timeout
+# left out: CMD23 00000008 R1 00000900: no script can name it
 CMD18 00000008 R1 00000900
 IN 1 ok
 CMD12 00000000 R1 00000b00
+# left out: CMD23 00000008 R1 00000900: no script can name it
 CMD25 00000008 R1 00000900
 OUT 1 ok
+# changed: CMD12 12340000 R1 00000d00: bits at which the card does not look
 CMD12 00000000 R1 00000d00
 CMD13 12348000 R1 00000900
+# changed: CMD7 1234ffff R1 00000900: bits at which the card does not look
 CMD7 12340000 R1 00000900
 =
 CMD8 000001ff stands as CMD8 000001aa (line 1, 2 times)
@@ -997,6 +1084,7 @@ CMD52   00000c00 -> no answer
 CMD0    00000000 -> (none)
 $2
 =
+# left out: CMD52 00000c00 timeout: no script can name it
 CMD0 00000000 -
 =
 line 3: $1

@@ -5,8 +5,9 @@
 # finish() at the end of its input. `emmc` is 1 for an e.MMC device and 0 for an SD card, and `name` is the converter's name.
 #
 # Commands that no script can name are left out, because a trace is read against the same tables. The CMD55 before such an
-# application command is left out too. Arguments that a script cannot write are replaced by one that means the same here. At the
-# end notes() reports on standard error what was left out or replaced, how often, and in which line first.
+# application command is left out too. Arguments that a script cannot write are replaced by one that means the same here. Each of
+# these stands in the trace as a comment, as it was captured, with the reason. At the end notes() reports on standard error what was
+# left out or replaced, how often, and in which line first.
 #
 # POSIX awk. Arguments and answers are texts of eight hexadecimal digits, so no number exceeds 2^32.
 
@@ -79,6 +80,28 @@ function shown(answer) { return answer ~ /^R1 / ? state_of(substr(answer, 4)) : 
 function out(line) {
     if (due == "") print line
     else later[++laters] = line
+    if (due != "" && line !~ /^#/) commands_later++
+}
+
+# COMMENTS in place of lines that are left out, and before those that stand for others
+
+function omit(line, reason) { out("# left out: " line ": " reason) }
+
+function alter(line, reason) { out("# changed: " line ": " reason) }
+
+# the held CMD55 is left out
+function omit_held(reason) {
+    if (held != "") omit(held, reason)
+    held = ""
+}
+
+# why another argument stands for that of a command
+function reason_of(i, app) {
+    if (i == 41 || (emmc && i == 1)) return "another voltage window"
+    if (!emmc && i == 8) return "another check pattern"
+    if (emmc && i == 6) return "bits that do not count"
+    if (emmc && i ~ /^(3|7|9|10|13)$/) return "another relative address"
+    return "bits at which the card does not look"
 }
 
 # The held line is a CMD55 whose next command is not known yet.
@@ -160,9 +183,17 @@ function echo_of(arg, answer,    back) {
     return answer
 }
 
+# The next command stands in the trace as it was not, for this reason.
+function stands_otherwise(words, reason) {
+    note(words ": " reason)
+    remark = reason
+}
+
 # A command, and what came of it: `-`, `timeout` or a response. It returns 1 if the trace has the command. `counted` is 1 after
 # the CMD23 of an SD card, and after the command of its transfer.
-function command(i, arg, answer,    app, taken, want, state) {
+function command(i, arg, answer,    app, taken, want, state, why) {
+    why = remark
+    remark = ""
     app = after_55
     counted = counted && last_index == 23 && (i == 18 || i == 25)
     last_index = i
@@ -173,12 +204,15 @@ function command(i, arg, answer,    app, taken, want, state) {
     state = shown(answer)
     if (after_left && i == 13 && state >= 5 && state <= 7) {
         note("left out: CMD13 while the card was at work on a command that was left out")
+        let_go()
+        omit("CMD13 " arg " " answer, "the card is at work on a command that is left out")
         return 0
     }
     after_left = 0
     if (is_inquiry(i, arg) && (emmc || taken)) {
         note("left out: " (emmc ? "CMD1" : "CMD55 and CMD41") " " arg ", an inquiry")
-        held = ""
+        omit_held("before an inquiry")
+        omit("CMD" i " " arg " " answer, "an inquiry")
         return 0
     }
     if (!in_tables(i, arg, app)) {
@@ -186,20 +220,25 @@ function command(i, arg, answer,    app, taken, want, state) {
         counted = !emmc && i == 23 && !app && answer ~ /^R1 /
         if (is_other_application(i, app)) {
             note("left out: CMD55 and CMD" i)
-            held = ""
+            omit_held("before ACMD" i)
         } else note("left out: CMD" i (emmc && i == 6 ? " " arg : ""))
+        let_go()
+        omit("CMD" i " " arg " " answer, "no script can name it")
         return 0
     }
     let_go()
+    if (why != "") alter("CMD" i " " arg, why)
     if (emmc && i == 3 && substr(arg, 1, 4) != "0000") device = substr(arg, 1, 4)
     want = argument_of(i, arg, app)
     if (want != arg) {
         note("CMD" i " " arg " stands as CMD" i " " want)
+        alter("CMD" i " " arg " " answer, reason_of(i, app))
         if (i == 8) answer = echo_of(arg, answer)
         arg = want
     }
     if (i == 7 && arg == "00000000" && answer != "-") {
         note("CMD7 with address 0 stands without an answer")
+        alter("CMD7 " arg " " answer, "no card answers it")
         answer = "-"
     }
     if (i == 0) {
@@ -249,7 +288,7 @@ function settle(took_place,    i, line) {
         note("put in: " line (open_due ? " for any number of blocks" : "") ", because a later command shows the phase")
     }
     for (i = 1; i <= laters; i++) print later[i]
-    laters = 0
+    laters = commands_later = 0
 }
 
 # A command on the command line alone. `state` is the state in which the card received it, or -1. The next command with a state
@@ -262,7 +301,7 @@ function seen(i, arg, answer, state,    app) {
             counted = 0
             settle(1)
         } else if (state >= 0) settle(state == 4 || (state == 7 && due ~ /^OUT/))
-        else if (laters >= 64) settle(0)
+        else if (commands_later >= 64) settle(0)
     }
     if (command(i, arg, answer) && answer ~ /^R1 /) {
         due = asked(i, app)
