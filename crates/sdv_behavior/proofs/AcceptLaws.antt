@@ -25,7 +25,6 @@ use Rattle.sdv_card.proofs.LegalExact.{OrderLegal, order_legal_law, order_legal_
 use Rattle.sdv_card.proofs.Members.{May-targets, both_true, and_left, and_right}
 use Rattle.sdv_card.proofs.SettledCard.{settled_is_card}
 use Rattle.sdv_behavior.specs.declared.behavior.Behavior.{Behavior}
-use Rattle.sdv_behavior.specs.declared.behavior.Behavior.TheVariants.{IsSlow, FailsSwitch}
 use Rattle.sdv_behavior.specs.declared.card_desc.CardDesc.{CardDesc}
 use Rattle.sdv_behavior.specs.declared.card_state.CardState.{CardState}
 use Rattle.sdv_behavior.specs.declared.choice.Choice.{Choice}
@@ -33,9 +32,9 @@ use Rattle.sdv_behavior.specs.Layout.{partition_size}
 use Rattle.sdv_behavior.specs.Accepts.{fields_at, has_blocks, accepts}
 use Rattle.sdv_behavior.specs.Accepted.{AcceptsExactly}
 use Rattle.sdv_behavior.specs.CardOf.{card_with, card_of}
-use Rattle.sdv_behavior.specs.declared.heard.Deed.{Deed}
-use Rattle.sdv_behavior.specs.declared.heard.Deed.TheVariants.{Loses, TakesUnheard, Takes, Stays}
-use Rattle.sdv_behavior.specs.Heard.{deed_of, choice_of, does, done_as, hear_at}
+use Rattle.sdv_behavior.specs.declared.behavior.Deed.{Deed}
+use Rattle.sdv_behavior.specs.declared.behavior.Deed.TheVariants.{Loses, TakesUnheard, Takes, StaysUnheard, Stays}
+use Rattle.sdv_behavior.specs.Heard.{deed_at, answered, choice_of, does, done_as, hear_at}
 use Rattle.sdv_behavior.specs.Replies.{reply_of}
 use Rattle.sdv_behavior.specs.RowTaken.{count_of, state_next, taken_by}
 use Rattle.sdv_behavior.specs.LinesRead.{read_as}
@@ -151,24 +150,18 @@ taken_18 d n m argument choice t = ap (λ s. record (taken_by d (Cmd18 n) argume
 does_18 : (d : CardDesc) (deed : Deed) (n m argument : ℕ) (choice : Choice) (t : CardState) →
     does d deed (Cmd18 n) argument choice t ≡ does d deed (Cmd18 m) argument choice t
 does_18 d Loses n m argument choice t = refl
-does_18 d TakesUnheard n m argument choice t = ap (λ a. record { after = a; reply = None; erases = false }) (taken_18 d n m argument choice t)
-does_18 d (Takes error) n m argument choice t =
-    ap (λ a. record { after = a; reply = reply_of d (Cmd18 n) t choice.app error choice.ready; erases = false }) (taken_18 d n m argument choice t)
+does_18 d TakesUnheard n m argument choice t = ap (λ (a : CardState). record { after = answered d (Cmd18 n) false a; reply = None; erases = false }) (taken_18 d n m argument choice t)
+does_18 d Takes n m argument choice t =
+    ap (λ (a : CardState). record { after = answered d (Cmd18 n) true a; reply = reply_of d (Cmd18 n) t choice.app choice.error choice.ready; erases = false }) (taken_18 d n m argument choice t)
+does_18 d StaysUnheard n m argument choice t = refl
 does_18 d Stays n m argument choice t = refl
-
-choice_18 : (d : CardDesc) (behavior : Behavior) (n m : ℕ) (checked : Bool) →
-    choice_of d behavior (Cmd18 n) checked ≡ choice_of d behavior (Cmd18 m) checked
-choice_18 d IsSlow n m checked = refl
-choice_18 d FailsSwitch n m checked = refl
-choice_18 d behavior n m checked = refl
 
 done_18 : (d : CardDesc) (behavior : Behavior) (n m : ℕ) (app matched : Bool) (argument : ℕ) (t : CardState) →
     done_as d behavior (taken_as_of (ReadMultipleBlock n) app matched) argument t
     ≡ done_as d behavior (taken_as_of (ReadMultipleBlock m) app matched) argument t
 done_18 d behavior n m true matched argument t = refl
 done_18 d behavior n m false matched argument t =
-    does_18 d (deed_of behavior CardStatus) n m argument (choice_of d behavior (Cmd18 n) t.checked) t
-    ∙ ap (λ c. does d (deed_of behavior CardStatus) (Cmd18 m) argument c t) (choice_18 d behavior n m t.checked)
+    does_18 d (deed_at behavior.deed CardStatus) n m argument (choice_of d behavior (Cmd18 n) t.checked) t
 
 state_25 : (k : Kind) (n m : ℕ) (ready : Bool) (state : State) → state_next k (Cmd25 n) ready state ≡ state_next k (Cmd25 m) ready state
 state_25 Sd n m ready state = refl
@@ -181,24 +174,18 @@ taken_25 d n m argument choice t = ap (λ s. record (taken_by d (Cmd25 n) argume
 does_25 : (d : CardDesc) (deed : Deed) (n m argument : ℕ) (choice : Choice) (t : CardState) →
     does d deed (Cmd25 n) argument choice t ≡ does d deed (Cmd25 m) argument choice t
 does_25 d Loses n m argument choice t = refl
-does_25 d TakesUnheard n m argument choice t = ap (λ a. record { after = a; reply = None; erases = false }) (taken_25 d n m argument choice t)
-does_25 d (Takes error) n m argument choice t =
-    ap (λ a. record { after = a; reply = reply_of d (Cmd25 n) t choice.app error choice.ready; erases = false }) (taken_25 d n m argument choice t)
+does_25 d TakesUnheard n m argument choice t = ap (λ (a : CardState). record { after = answered d (Cmd25 n) false a; reply = None; erases = false }) (taken_25 d n m argument choice t)
+does_25 d Takes n m argument choice t =
+    ap (λ (a : CardState). record { after = answered d (Cmd25 n) true a; reply = reply_of d (Cmd25 n) t choice.app choice.error choice.ready; erases = false }) (taken_25 d n m argument choice t)
+does_25 d StaysUnheard n m argument choice t = refl
 does_25 d Stays n m argument choice t = refl
-
-choice_25 : (d : CardDesc) (behavior : Behavior) (n m : ℕ) (checked : Bool) →
-    choice_of d behavior (Cmd25 n) checked ≡ choice_of d behavior (Cmd25 m) checked
-choice_25 d IsSlow n m checked = refl
-choice_25 d FailsSwitch n m checked = refl
-choice_25 d behavior n m checked = refl
 
 done_25 : (d : CardDesc) (behavior : Behavior) (n m : ℕ) (app matched : Bool) (argument : ℕ) (t : CardState) →
     done_as d behavior (taken_as_of (WriteMultipleBlock n) app matched) argument t
     ≡ done_as d behavior (taken_as_of (WriteMultipleBlock m) app matched) argument t
 done_25 d behavior n m true matched argument t = refl
 done_25 d behavior n m false matched argument t =
-    does_25 d (deed_of behavior CardStatus) n m argument (choice_of d behavior (Cmd25 n) t.checked) t
-    ∙ ap (λ c. does d (deed_of behavior CardStatus) (Cmd25 m) argument c t) (choice_25 d behavior n m t.checked)
+    does_25 d (deed_at behavior.deed CardStatus) n m argument (choice_of d behavior (Cmd25 n) t.checked) t
 
 pub hears_same : (d : CardDesc) (behavior : Behavior) (order : Order) (preset argument announced : ℕ) (t : CardState) (contents : Partitions) →
     SentTo order argument → AddressFits t.state t.rca →

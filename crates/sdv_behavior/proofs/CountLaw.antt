@@ -16,12 +16,11 @@ use Rattle.sdv_card.specs.RowRules.{transfer_after, preset_allows}
 use Rattle.sdv_card.specs.States.{own_target}
 use Rattle.sdv_card.specs.Takes.{taken_as_of}
 use Rattle.sdv_behavior.specs.declared.behavior.Behavior.{Behavior}
-use Rattle.sdv_behavior.specs.declared.behavior.Behavior.TheVariants.{IsSlow, LosesCommandWhileBusy, ReportsErrorWhileBusy}
 use Rattle.sdv_behavior.specs.declared.card_desc.CardDesc.{CardDesc}
 use Rattle.sdv_behavior.specs.declared.card_state.CardState.{CardState}
 use Rattle.sdv_behavior.specs.declared.choice.Choice.{Choice}
-use Rattle.sdv_behavior.specs.declared.heard.Deed.{Deed}
-use Rattle.sdv_behavior.specs.declared.heard.Deed.TheVariants.{Loses, TakesUnheard, Takes, Stays}
+use Rattle.sdv_behavior.specs.declared.behavior.Deed.{Deed}
+use Rattle.sdv_behavior.specs.declared.behavior.Deed.TheVariants.{Loses, TakesUnheard, Takes, StaysUnheard, Stays}
 use Rattle.sdv_behavior.specs.CardOf.{card_with}
 use Rattle.sdv_behavior.specs.Heard.{stepped_to, settled_by, row_deed, choice_of, does, done_as}
 use Rattle.sdv_behavior.specs.RowTaken.{announced_next}
@@ -60,7 +59,8 @@ does_count : (d : CardDesc) (deed : Deed) (row : Row) (argument : ℕ) (choice :
     Knows (does d deed row argument choice t).after (announced_by deed row announced)
 does_count d Loses row argument choice t announced allowed knows k = knows k
 does_count d TakesUnheard row argument choice t announced allowed knows k = row_count row t announced allowed knows k
-does_count d (Takes error) row argument choice t announced allowed knows k = row_count row t announced allowed knows k
+does_count d Takes row argument choice t announced allowed knows k = row_count row t announced allowed knows k
+does_count d StaysUnheard row argument choice t announced allowed knows k = knows k
 does_count d Stays row argument choice t announced allowed knows k = knows k
 
 pub done_count : (d : CardDesc) (behavior : Behavior) (way : TakenAs) (argument : ℕ) (t : CardState) (announced : ℕ) (contents : Partitions) →
@@ -69,17 +69,15 @@ pub done_count : (d : CardDesc) (behavior : Behavior) (way : TakenAs) (argument 
 done_count d behavior Forbidden argument t announced contents legal knows = knows
 done_count d behavior Ignored argument t announced contents legal knows = knows
 done_count d behavior (By row) argument t announced contents legal knows =
-    does_count d (row_deed behavior row) row argument (choice_of d behavior row t.checked) t announced legal.preset knows
+    does_count d (row_deed behavior.deed row) row argument (choice_of d behavior row t.checked) t announced legal.preset knows
 
 stepped_count : (o : Option State) (s : CardState) (announced : ℕ) → Knows s announced → Knows (stepped_to o s) announced
 stepped_count None s announced knows = knows
 stepped_count (Some state) s announced knows = λ k. no k
 
-pub settled_count : (behavior : Behavior) (s : CardState) (announced : ℕ) → Knows s announced → Knows (settled_by behavior s) announced
-settled_count IsSlow s announced knows = knows
-settled_count LosesCommandWhileBusy s announced knows = knows
-settled_count ReportsErrorWhileBusy s announced knows = knows
-settled_count behavior s announced knows = stepped_count (own_target s.state s.transfer) s announced knows
+pub settled_count : (settles : Bool) (s : CardState) (announced : ℕ) → Knows s announced → Knows (settled_by settles s) announced
+settled_count false s announced knows = knows
+settled_count true s announced knows = stepped_count (own_target s.state s.transfer) s announced knows
 
 -- THE COUNT THAT IS READ is at most the one that the host announced
 few : (preset n : ℕ) (none : Bool) → (preset == 0) ≡ none → (none || (preset == n)) ≡ true → 0 < n → (if none then 1 else preset) ≤ n

@@ -1,5 +1,5 @@
 -- What comes of a row at a simulated card is what the tables allow.
-use Rattle.std.proofs.Common.{◌≡◌, ℕ, ◌<◌, ◌==◌, ◌&&◌, ◌^◌, inl, inr, refl, sym, ap, subst, ◌∙◌, Bool, true, false, List, Option, Some, None, if◌then◌else◌, lit<, eqb-true}
+use Rattle.std.proofs.Common.{◌≡◌, ℕ, ◌<◌, ◌==◌, ◌&&◌, ◌^◌, inl, inr, refl, sym, ap, subst, ◌∙◌, not, Bool, true, false, List, Option, Some, None, if◌then◌else◌, lit<, eqb-true}
 use Rattle.std.specs.Prelude.{IfSome}
 use Rattle.std.proofs.lemmas.List.Elements.{recursion_from_All}
 use Rattle.sdv_registers.specs.declared.kind.Kind.{Kind}
@@ -17,6 +17,7 @@ use Rattle.sdv_card.specs.declared.command.Order.TheVariants.{DeselectCards}
 use Rattle.sdv_card.specs.declared.command.Row.{Row}
 use Rattle.sdv_card.specs.declared.command.Row.TheVariants.{Cmd0, Cmd1, Cmd2, Cmd3Sd, Cmd7NotAddressed, Cmd8Sd, Cmd9, Cmd10, Cmd13, Cmd38, Cmd55, Acmd41}
 use Rattle.sdv_card.specs.Card.{Card, Partitions, IsRegister}
+use Rattle.sdv_card.specs.Agrees.{ErrorShown}
 use Rattle.sdv_card.specs.Exchange.{RowAnswer, unaddressed_answer}
 use Rattle.sdv_card.specs.Legal.{RowLegal}
 use Rattle.sdv_card.specs.Lists.{May}
@@ -26,23 +27,23 @@ use Rattle.sdv_card.specs.StateTable.{rows, targets}
 use Rattle.sdv_card.specs.Taken.{Taken, ContentsAfter}
 use Rattle.sdv_card.proofs.Members.{May-targets}
 use Rattle.sdv_behavior.specs.declared.behavior.Behavior.{Behavior}
-use Rattle.sdv_behavior.specs.declared.behavior.Behavior.TheVariants.{Prompt, LosesCommand, LosesAnswer, IsSlow, ReportsError, Refuses, CutsPhase, FailsSwitch, LosesCrcStatus, OmitsAppCommand, LosesCommandWhileBusy, ReportsErrorWhileBusy}
+use Rattle.sdv_behavior.specs.declared.behavior.Deed.{Deed}
+use Rattle.sdv_behavior.specs.declared.behavior.Deed.TheVariants.{Loses, TakesUnheard, Takes, StaysUnheard, Stays}
 use Rattle.sdv_behavior.specs.declared.card_desc.CardDesc.{CardDesc}
 use Rattle.sdv_behavior.specs.declared.card_state.CardState.{CardState}
 use Rattle.sdv_behavior.specs.declared.choice.Choice.{Choice}
-use Rattle.sdv_behavior.specs.declared.heard.Deed.{Deed}
-use Rattle.sdv_behavior.specs.declared.heard.Deed.TheVariants.{Loses, TakesUnheard, Takes, Stays}
 use Rattle.sdv_behavior.specs.CardOf.{card_with}
 use Rattle.sdv_behavior.proofs.Described.{IsDescribed}
-use Rattle.sdv_behavior.specs.Heard.{reports, row_deed, choice_of, does, is_erase}
+use Rattle.sdv_registers.specs.Status.{has_doubt}
+use Rattle.sdv_behavior.specs.declared.behavior.StatusError.{StatusError}
+use Rattle.sdv_behavior.specs.Heard.{reports, row_deed, choice_of, answered, does, is_erase}
 use Rattle.sdv_behavior.specs.Registers.{cid_of}
-use Rattle.sdv_behavior.specs.Replies.{reply_of, shows_app}
+use Rattle.sdv_behavior.specs.Replies.{reply_of, shows_app, error_shown}
 use Rattle.sdv_behavior.specs.RowTaken.{state_next, taken_by, stays}
 use Rattle.sdv_behavior.proofs.Told.{Tells, LeavesBlocks}
-use Rattle.sdv_behavior.specs.Words.{status_word, address_word, conditions_word}
+use Rattle.sdv_behavior.specs.Words.{leaves_doubt, doubt_of, status_word, address_word, conditions_word}
 use Rattle.sdv_behavior.proofs.TakenLaw.{announced_with, ChoiceFits, choice_fits, taken_law, stayed_law}
-use Rattle.sdv_behavior.proofs.WordLaws.{status_shows, conditions_show, sd_unit, emmc_unit, address_shows}
-use Rattle.sdv_card.proofs.ExampleAnswers.{no_error}
+use Rattle.sdv_behavior.proofs.WordLaws.{StatusShows, status_shows, doubt_is, doubt_shown, conditions_show, sd_unit, emmc_unit, address_shows}
 
 -- an answer of the tables at t, which leaves u, as the reply tells it
 pub record RowTold (order : Order) (row : Row) (argument : ℕ) (t u : Card) (reply : Option Reply) : Type 0 where
@@ -53,51 +54,61 @@ pub record RowTold (order : Order) (row : Row) (argument : ℕ) (t u : Card) (re
 
 -- DEEDS
 
--- CMD0 is taken, and an error is reported only in a status
+-- CMD0 is taken, and a card stays only where a status or an address answers
 abbrev pub DeedFits : Deed → Row → Type 0
 DeedFits Loses Cmd0 = ⊥
 DeedFits Loses row = Unit {0}
 DeedFits TakesUnheard Cmd0 = ⊥
 DeedFits TakesUnheard row = Unit {0}
-DeedFits (Takes error) row = Unit {0}
+DeedFits Takes row = Unit {0}
+DeedFits StaysUnheard row = reports (response_of row) ≡ true
 DeedFits Stays row = reports (response_of row) ≡ true
 
-deed_fits : (behavior : Behavior) (row : Row) → DeedFits (row_deed behavior row) row
-deed_fits LosesCommand Cmd0 = tt
-deed_fits LosesCommand row = tt
-deed_fits LosesAnswer Cmd0 = tt
-deed_fits LosesAnswer row = tt
-deed_fits ReportsError Cmd0 = tt
-deed_fits ReportsError row = tt
-deed_fits Refuses Cmd0 = tt
-deed_fits Refuses Cmd1 = tt
-deed_fits Refuses Cmd2 = tt
-deed_fits Refuses Cmd7NotAddressed = tt
-deed_fits Refuses Cmd8Sd = tt
-deed_fits Refuses Cmd9 = tt
-deed_fits Refuses Cmd10 = tt
-deed_fits Refuses (Acmd41 high) = tt
-deed_fits Refuses row = refl
-deed_fits Prompt Cmd0 = tt
-deed_fits Prompt row = tt
-deed_fits IsSlow Cmd0 = tt
-deed_fits IsSlow row = tt
-deed_fits CutsPhase Cmd0 = tt
-deed_fits CutsPhase row = tt
-deed_fits FailsSwitch Cmd0 = tt
-deed_fits FailsSwitch row = tt
-deed_fits LosesCrcStatus Cmd0 = tt
-deed_fits LosesCrcStatus row = tt
-deed_fits OmitsAppCommand Cmd0 = tt
-deed_fits OmitsAppCommand row = tt
-deed_fits LosesCommandWhileBusy Cmd0 = tt
-deed_fits LosesCommandWhileBusy row = tt
-deed_fits ReportsErrorWhileBusy Cmd0 = tt
-deed_fits ReportsErrorWhileBusy row = tt
+taken_fits : (row : Row) → DeedFits (row_deed Takes row) row
+taken_fits Cmd0 = tt
+taken_fits row = tt
+
+unheard_fits : (row : Row) → DeedFits (row_deed TakesUnheard row) row
+unheard_fits Cmd0 = tt
+unheard_fits row = tt
+
+loss_fits : (row : Row) → DeedFits (row_deed Loses row) row
+loss_fits Cmd0 = tt
+loss_fits row = tt
+
+stay_fits : (row : Row) → DeedFits (row_deed Stays row) row
+stay_fits Cmd0 = tt
+stay_fits Cmd1 = tt
+stay_fits Cmd2 = tt
+stay_fits Cmd7NotAddressed = tt
+stay_fits Cmd8Sd = tt
+stay_fits Cmd9 = tt
+stay_fits Cmd10 = tt
+stay_fits (Acmd41 high) = tt
+stay_fits row = refl
+
+unheard_stay_fits : (row : Row) → DeedFits (row_deed StaysUnheard row) row
+unheard_stay_fits Cmd0 = tt
+unheard_stay_fits Cmd1 = tt
+unheard_stay_fits Cmd2 = tt
+unheard_stay_fits Cmd7NotAddressed = tt
+unheard_stay_fits Cmd8Sd = tt
+unheard_stay_fits Cmd9 = tt
+unheard_stay_fits Cmd10 = tt
+unheard_stay_fits (Acmd41 high) = tt
+unheard_stay_fits row = refl
+
+deed_fits : (deed : Deed) (row : Row) → DeedFits (row_deed deed row) row
+deed_fits Loses row = loss_fits row
+deed_fits TakesUnheard row = unheard_fits row
+deed_fits Takes row = taken_fits row
+deed_fits StaysUnheard row = unheard_stay_fits row
+deed_fits Stays row = stay_fits row
 
 -- the blocks that the host announced last, as the deed leaves them
 abbrev pub announced_by : Deed → Row → ℕ → ℕ
 announced_by Loses row before = before
+announced_by StaysUnheard row before = before
 announced_by Stays row before = before
 announced_by deed row before = announced_with row before
 
@@ -167,6 +178,20 @@ index_small : (row : Row) → row_index row < 2 ^ 6
 index_small Cmd0 = lit< tt
 index_small row = lit< tt
 
+-- an error of an earlier write is shown by a status that leaves a doubt
+error_told : {word : ℕ} {state : State} {a w : Bool} (error : StatusError) (pending : Bool) (t u : Card) → t.unshown_error ≡ pending →
+    u.unshown_error ≡ false → StatusShows word state a w (leaves_doubt (error_shown error pending)) → ErrorShown t (has_doubt word) u
+error_told {word = word} error false t u before after shows = record {
+  ends = after ∙ sym (ap (λ v. v && not (has_doubt word)) before);
+  must = λ tran is. absurd (let f : true ≡ false = sym is ∙ before in cc);
+}
+error_told {word = word} error true t u before after shows =
+    let doubt : has_doubt word ≡ true = shows.error ∙ doubt_is error in
+    record {
+      ends = after ∙ sym (ap (λ v. v && not (has_doubt word)) before ∙ ap not doubt);
+      must = λ tran is. doubt;
+    }
+
 -- THE ROWS
 
 module _ (d : CardDesc) (is : IsDescribed d) (csd : IsRegister 15 d.csd) (order : Order) (argument : ℕ) (t : CardState) (announced : ℕ)
@@ -174,9 +199,17 @@ module _ (d : CardDesc) (is : IsDescribed d) (csd : IsRegister 15 d.csd) (order 
   abbrev before : Card
   before = card_with d t announced contents
 
-  -- the card after a row that it takes
-  abbrev taken : Row → Choice → Partitions → Card
-  taken row choice contents' = card_with d (taken_by d row argument choice t) (announced_with row announced) contents'
+  -- the card after a row that it takes, whose answer the host heard or not
+  abbrev taken : Row → (heard : Bool) → Choice → Partitions → Card
+  taken row heard choice contents' = card_with d (answered d row heard (taken_by d row argument choice t)) (announced_with row announced) contents'
+
+  -- an error of an earlier write that no status has shown then
+  abbrev error_left : Row → (heard : Bool) → Bool
+  error_left row heard = (answered d row heard t).unshown_error
+
+  -- one that stays
+  abbrev stayed : Row → (heard : Bool) → Choice → Card
+  stayed row heard choice = card_with d (answered d row heard (stays d.kind row choice t)) announced contents
 
   -- the command did not reach it
   lost : (row : Row) → DeedFits Loses row → RowTold order row argument before before None
@@ -185,38 +218,47 @@ module _ (d : CardDesc) (is : IsDescribed d) (csd : IsRegister 15 d.csd) (order 
   lost row f = record { answer = TimeOut; told = inr refl; is_reply = tt; answered = inl refl }
 
   -- the answer did not reach the host
-  unheard_row : (row : Row) (u : Card) → DeedFits TakesUnheard row → ((heard : Bool) → Taken row heard argument before u) →
-      false ≡ u.unshown_error → RowTold order row argument before u None
-  unheard_row Cmd0 u f taken error = absurd f
-  unheard_row Cmd7NotAddressed u f taken error = record {
+  unheard_row : (row : Row) (choice : Choice) (contents' : Partitions) → DeedFits TakesUnheard row →
+      ((heard : Bool) → Taken row heard argument before (taken row false choice contents')) →
+      RowTold order row argument before (taken row false choice contents') None
+  unheard_row Cmd0 choice contents' f card = absurd f
+  unheard_row Cmd7NotAddressed choice contents' f card = record {
     answer = unaddressed_answer order;
     told = unheard_answer order;
     is_reply = tt;
-    answered = (refl, inr (record { card = taken true; error = error }));
+    answered = (refl, inr (record { card = card true; error = refl }));
   }
-  unheard_row row u f taken error =
-      record { answer = TimeOut; told = inr refl; is_reply = tt; answered = inr (inl (record { card = taken false; error = error })) }
+  unheard_row row choice contents' f card =
+      record { answer = TimeOut; told = inr refl; is_reply = tt; answered = inr (inl (record { card = card false; error = refl })) }
 
   -- CMD8 of an SD card, by its version
   interface : (contents' : Partitions) (choice : Choice) (is_2 : Bool) → (d.version == 2) ≡ is_2 →
-      ((heard : Bool) → Taken Cmd8Sd heard argument before (taken Cmd8Sd choice contents')) →
-      RowTold order Cmd8Sd argument before (taken Cmd8Sd choice contents') (if is_2 then Some (R7 0x1aa) else None)
+      ((heard : Bool) → Taken Cmd8Sd heard argument before (taken Cmd8Sd true choice contents')) →
+      RowTold order Cmd8Sd argument before (taken Cmd8Sd true choice contents') (if is_2 then Some (R7 0x1aa) else None)
   interface contents' choice true e card = record {
     answer = Replied (R7 0x1aa);
     told = refl;
     is_reply = lit< tt;
-    answered = record { shown = record { is_word = lit< tt; echo = refl; version = eqb-true d.version 2 e }; card = card true; error = refl };
+    answered = record {
+      shown = record { is_word = lit< tt; echo = refl; version = eqb-true d.version 2 e };
+      card = card true;
+      error = sym (ap (λ v. v && t.unshown_error) e);
+    };
   }
-  interface contents' choice false e card =
-      record { answer = TimeOut; told = inr refl; is_reply = tt; answered = inr (inl (record { card = card false; error = refl })) }
+  interface contents' choice false e card = record {
+    answer = TimeOut;
+    told = inr refl;
+    is_reply = tt;
+    answered = inr (inl (record { card = card false; error = sym (ap (λ v. v && t.unshown_error) e) }));
+  }
 
   -- it takes the row and answers
-  answered_row : (row : Row) (error : Bool) (choice : Choice) (contents' : Partitions) → RowLegal row before →
-      ((heard : Bool) → Taken row heard argument before (taken row choice contents')) →
-      RowTold order row argument before (taken row choice contents') (reply_of d row t choice.app error choice.ready)
-  answered_row Cmd0 error choice contents' legal card =
+  answered_row : (row : Row) (choice : Choice) (contents' : Partitions) → RowLegal row before →
+      ((heard : Bool) → Taken row heard argument before (taken row true choice contents')) →
+      RowTold order row argument before (taken row true choice contents') (reply_of d row t choice.app choice.error choice.ready)
+  answered_row Cmd0 choice contents' legal card =
       record { answer = Sent; told = inl refl; is_reply = tt; answered = record { card = card true; error = refl } }
-  answered_row Cmd1 error choice contents' legal card =
+  answered_row Cmd1 choice contents' legal card =
       let s = conditions_show Emmc d.block_unit choice.ready in
       let e = op_cond_state d.kind choice.ready t.state (May-targets legal.has_row) in
       record {
@@ -233,38 +275,43 @@ module _ (d : CardDesc) (is : IsDescribed d) (csd : IsRegister 15 d.csd) (order 
           error = refl;
         };
       }
-  answered_row Cmd2 error choice contents' legal card =
+  answered_row Cmd2 choice contents' legal card =
       record {
         answer = Replied (R2 (cid_of d.kind));
         told = refl;
         is_reply = cid_reply d.kind;
         answered = record { shown = refl; card = card true; error = refl };
       }
-  answered_row Cmd3Sd error choice contents' legal card =
-      let s = address_shows d.rca error t.state is.address_fits in
+  answered_row Cmd3Sd choice contents' legal card =
+      let s = address_shows d.rca (leaves_doubt choice.error) t.state is.address_fits in
       record {
-        answer = Replied (R6 (address_word d.rca t.state error));
+        answer = Replied (R6 (address_word d.rca t.state (leaves_doubt choice.error)));
         told = refl;
         is_reply = s.is_word;
         answered = record { is_word = s.is_word; state = s.state; card = inl (record { card = card true; rca = ap Some s.rca }); error = refl };
       }
-  answered_row Cmd7NotAddressed error choice contents' legal card = unheard_row Cmd7NotAddressed _ tt card refl
-  answered_row Cmd8Sd error choice contents' legal card = interface contents' choice (d.version == 2) refl card
-  answered_row Cmd9 error choice contents' legal card =
+  answered_row Cmd7NotAddressed choice contents' legal card = record {
+    answer = unaddressed_answer order;
+    told = unheard_answer order;
+    is_reply = tt;
+    answered = (refl, inr (record { card = card true; error = refl }));
+  }
+  answered_row Cmd8Sd choice contents' legal card = interface contents' choice (d.version == 2) refl card
+  answered_row Cmd9 choice contents' legal card =
       record {
         answer = Replied (R2 d.csd);
         told = refl;
         is_reply = register_reply d.csd csd;
         answered = record { shown = refl; card = card true; error = refl };
       }
-  answered_row Cmd10 error choice contents' legal card =
+  answered_row Cmd10 choice contents' legal card =
       record {
         answer = Replied (R2 (cid_of d.kind));
         told = refl;
         is_reply = cid_reply d.kind;
         answered = record { shown = refl; card = card true; error = refl };
       }
-  answered_row (Acmd41 high) error choice contents' legal card =
+  answered_row (Acmd41 high) choice contents' legal card =
       let s = conditions_show Sd d.block_unit choice.ready in
       let e = conditions_state d.kind high choice.ready t.state (May-targets legal.has_row) in
       record {
@@ -281,10 +328,10 @@ module _ (d : CardDesc) (is : IsDescribed d) (csd : IsRegister 15 d.csd) (order 
           error = refl;
         };
       }
-  answered_row Cmd55 error choice contents' legal card =
-      let s = status_shows choice.app false error t.state in
+  answered_row Cmd55 choice contents' legal card =
+      let s = status_shows choice.app false (error_shown choice.error t.unshown_error) t.state in
       record {
-        answer = Replied (R1 55 (status_word t.state choice.app false error));
+        answer = Replied (R1 55 (status_word t.state choice.app false (error_shown choice.error t.unshown_error)));
         told = refl;
         is_reply = (lit< tt, s.is_word);
         answered = record {
@@ -294,13 +341,13 @@ module _ (d : CardDesc) (is : IsDescribed d) (csd : IsRegister 15 d.csd) (order 
           card = inl (card true);
           app = s.app;
           switch = tt;
-          error = no_error _ _ _ refl refl;
+          error = error_told choice.error t.unshown_error _ _ refl refl s;
         };
       }
-  answered_row Cmd13 error choice contents' legal card =
-      let s = status_shows false t.mode.error error t.state in
+  answered_row Cmd13 choice contents' legal card =
+      let s = status_shows false t.mode.error (error_shown choice.error t.unshown_error) t.state in
       record {
-        answer = Replied (R1 13 (status_word t.state false t.mode.error error));
+        answer = Replied (R1 13 (status_word t.state false t.mode.error (error_shown choice.error t.unshown_error)));
         told = refl;
         is_reply = (lit< tt, s.is_word);
         answered = record {
@@ -310,13 +357,13 @@ module _ (d : CardDesc) (is : IsDescribed d) (csd : IsRegister 15 d.csd) (order 
           card = inl (card true);
           app = tt;
           switch = λ pending. s.switch ∙ pending;
-          error = no_error _ _ _ refl refl;
+          error = error_told choice.error t.unshown_error _ _ refl refl s;
         };
       }
-  answered_row row error choice contents' legal card =
-      let s = status_shows (shows_app row && choice.app) false error t.state in
+  answered_row row choice contents' legal card =
+      let s = status_shows (shows_app row && choice.app) false (error_shown choice.error t.unshown_error) t.state in
       record {
-        answer = Replied (R1 (row_index row) (status_word t.state (shows_app row && choice.app) false error));
+        answer = Replied (R1 (row_index row) (status_word t.state (shows_app row && choice.app) false (error_shown choice.error t.unshown_error)));
         told = refl;
         is_reply = (index_small row, s.is_word);
         answered = record {
@@ -326,77 +373,95 @@ module _ (d : CardDesc) (is : IsDescribed d) (csd : IsRegister 15 d.csd) (order 
           card = inl (card true);
           app = tt;
           switch = tt;
-          error = no_error _ _ _ refl refl;
+          error = error_told choice.error t.unshown_error _ _ refl refl s;
         };
       }
 
   -- it did not take the row, and answers with an error
-  stayed_row : (row : Row) (ready : Bool) → reports (response_of row) ≡ true →
-      RowTold order row argument before (card_with d (stays t) announced contents) (reply_of d row t false true ready)
-  stayed_row Cmd0 ready f = absurd (let f : false ≡ true = f in cc)
-  stayed_row Cmd1 ready f = absurd (let f : false ≡ true = f in cc)
-  stayed_row Cmd2 ready f = absurd (let f : false ≡ true = f in cc)
-  stayed_row Cmd7NotAddressed ready f = absurd (let f : false ≡ true = f in cc)
-  stayed_row Cmd8Sd ready f = absurd (let f : false ≡ true = f in cc)
-  stayed_row Cmd9 ready f = absurd (let f : false ≡ true = f in cc)
-  stayed_row Cmd10 ready f = absurd (let f : false ≡ true = f in cc)
-  stayed_row (Acmd41 high) ready f = absurd (let f : false ≡ true = f in cc)
-  stayed_row Cmd3Sd ready f =
-      let s = address_shows d.rca true t.state is.address_fits in
+  stayed_row : (row : Row) (choice : Choice) (ready : Bool) → reports (response_of row) ≡ true →
+      RowTold order row argument before (stayed row true choice) (reply_of d row t false (doubt_of choice.error) ready)
+  stayed_row Cmd0 choice ready f = absurd (let f : false ≡ true = f in cc)
+  stayed_row Cmd1 choice ready f = absurd (let f : false ≡ true = f in cc)
+  stayed_row Cmd2 choice ready f = absurd (let f : false ≡ true = f in cc)
+  stayed_row Cmd7NotAddressed choice ready f = absurd (let f : false ≡ true = f in cc)
+  stayed_row Cmd8Sd choice ready f = absurd (let f : false ≡ true = f in cc)
+  stayed_row Cmd9 choice ready f = absurd (let f : false ≡ true = f in cc)
+  stayed_row Cmd10 choice ready f = absurd (let f : false ≡ true = f in cc)
+  stayed_row (Acmd41 high) choice ready f = absurd (let f : false ≡ true = f in cc)
+  stayed_row Cmd3Sd choice ready f =
+      let s = address_shows d.rca (leaves_doubt (doubt_of choice.error)) t.state is.address_fits in
       record {
-        answer = Replied (R6 (address_word d.rca t.state true));
+        answer = Replied (R6 (address_word d.rca t.state (leaves_doubt (doubt_of choice.error))));
         told = refl;
         is_reply = s.is_word;
-        answered = record { is_word = s.is_word; state = s.state; card = inr (s.error, stayed_law d is Cmd3Sd argument t announced contents); error = refl };
+        answered = record { is_word = s.is_word; state = s.state; card = inr (s.error ∙ doubt_is choice.error, stayed_law d is Cmd3Sd argument t announced contents true (error_left Cmd3Sd true) choice); error = refl };
       }
-  stayed_row Cmd55 ready f =
-      let s = status_shows false false true t.state in
+  stayed_row Cmd55 choice ready f =
+      let s = status_shows false false (error_shown (doubt_of choice.error) t.unshown_error) t.state in
       record {
-        answer = Replied (R1 55 (status_word t.state false false true));
+        answer = Replied (R1 55 (status_word t.state false false (error_shown (doubt_of choice.error) t.unshown_error)));
         told = refl;
         is_reply = (lit< tt, s.is_word);
         answered = record {
           is_word = s.is_word;
           same_index = refl;
           state = s.state;
-          card = inr (s.error, stayed_law d is Cmd55 argument t announced contents);
+          card = inr (s.error ∙ doubt_shown choice.error t.unshown_error, stayed_law d is Cmd55 argument t announced contents true (error_left Cmd55 true) choice);
           app = s.app;
           switch = tt;
-          error = no_error _ _ _ refl refl;
+          error = error_told (doubt_of choice.error) t.unshown_error _ _ refl refl s;
         };
       }
-  stayed_row Cmd13 ready f =
-      let s = status_shows false t.mode.error true t.state in
+  stayed_row Cmd13 choice ready f =
+      let s = status_shows false t.mode.error (error_shown (doubt_of choice.error) t.unshown_error) t.state in
       record {
-        answer = Replied (R1 13 (status_word t.state false t.mode.error true));
+        answer = Replied (R1 13 (status_word t.state false t.mode.error (error_shown (doubt_of choice.error) t.unshown_error)));
         told = refl;
         is_reply = (lit< tt, s.is_word);
         answered = record {
           is_word = s.is_word;
           same_index = refl;
           state = s.state;
-          card = inr (s.error, stayed_law d is Cmd13 argument t announced contents);
+          card = inr (s.error ∙ doubt_shown choice.error t.unshown_error, stayed_law d is Cmd13 argument t announced contents true (error_left Cmd13 true) choice);
           app = tt;
           switch = λ pending. s.switch ∙ pending;
-          error = no_error _ _ _ refl refl;
+          error = error_told (doubt_of choice.error) t.unshown_error _ _ refl refl s;
         };
       }
-  stayed_row row ready f =
-      let s = status_shows false false true t.state in
+  stayed_row row choice ready f =
+      let s = status_shows false false (error_shown (doubt_of choice.error) t.unshown_error) t.state in
       record {
-        answer = Replied (R1 (row_index row) (status_word t.state false false true));
+        answer = Replied (R1 (row_index row) (status_word t.state false false (error_shown (doubt_of choice.error) t.unshown_error)));
         told = refl;
         is_reply = (index_small row, s.is_word);
         answered = record {
           is_word = s.is_word;
           same_index = refl;
           state = s.state;
-          card = inr (s.error, stayed_law d is row argument t announced contents);
+          card = inr (s.error ∙ doubt_shown choice.error t.unshown_error, stayed_law d is row argument t announced contents true (error_left row true) choice);
           app = tt;
           switch = tt;
-          error = no_error _ _ _ refl refl;
+          error = error_told (doubt_of choice.error) t.unshown_error _ _ refl refl s;
         };
       }
+
+  -- it did not take the row, and its answer did not reach the host
+  stayed_unheard : (row : Row) (choice : Choice) → reports (response_of row) ≡ true →
+      RowTold order row argument before (stayed row false choice) None
+  stayed_unheard Cmd0 choice f = absurd (let f : false ≡ true = f in cc)
+  stayed_unheard Cmd1 choice f = absurd (let f : false ≡ true = f in cc)
+  stayed_unheard Cmd2 choice f = absurd (let f : false ≡ true = f in cc)
+  stayed_unheard Cmd7NotAddressed choice f = absurd (let f : false ≡ true = f in cc)
+  stayed_unheard Cmd8Sd choice f = absurd (let f : false ≡ true = f in cc)
+  stayed_unheard Cmd9 choice f = absurd (let f : false ≡ true = f in cc)
+  stayed_unheard Cmd10 choice f = absurd (let f : false ≡ true = f in cc)
+  stayed_unheard (Acmd41 high) choice f = absurd (let f : false ≡ true = f in cc)
+  stayed_unheard row choice f = record {
+    answer = TimeOut;
+    told = inr refl;
+    is_reply = tt;
+    answered = inr (inr (record { card = stayed_law d is row argument t announced contents false (error_left row false) choice; error = refl }));
+  }
 
   -- a row, by the deed
   does_law : (deed : Deed) (row : Row) (choice : Choice) (contents' : Partitions) → DeedFits deed row → ChoiceFits d row choice →
@@ -407,24 +472,28 @@ module _ (d : CardDesc) (is : IsDescribed d) (csd : IsRegister 15 d.csd) (order 
   does_law Loses row choice contents' f fits legal left =
       subst (λ (cs : Partitions). RowTold order row argument before (card_with d t announced cs) None) left (lost row f)
   does_law TakesUnheard row choice contents' f fits legal left =
-      unheard_row row _ f
-      (taken_law d is row argument t announced contents choice contents' fits legal
-      (left_after d row t (taken_by d row argument choice t) announced (announced_with row announced) contents contents' left)) refl
-  does_law (Takes error) row choice contents' f fits legal left =
-      answered_row row error choice contents' legal
-      (taken_law d is row argument t announced contents choice contents' fits legal
-      (left_after d row t (taken_by d row argument choice t) announced (announced_with row announced) contents contents' left))
+      unheard_row row choice contents' f
+      (taken_law d is row argument t announced contents choice contents' fits legal (error_left row false)
+      (left_after d row t (answered d row false (taken_by d row argument choice t)) announced (announced_with row announced) contents contents' left))
+  does_law Takes row choice contents' f fits legal left =
+      answered_row row choice contents' legal
+      (taken_law d is row argument t announced contents choice contents' fits legal (error_left row true)
+      (left_after d row t (answered d row true (taken_by d row argument choice t)) announced (announced_with row announced) contents contents' left))
+  does_law StaysUnheard row choice contents' f fits legal left =
+      subst (λ (cs : Partitions). RowTold order row argument before (card_with d (answered d row false (stays d.kind row choice t)) announced cs) None) left
+      (stayed_unheard row choice f)
   does_law Stays row choice contents' f fits legal left =
-      subst (λ (cs : Partitions). RowTold order row argument before (card_with d (stays t) announced cs) (reply_of d row t false true choice.ready)) left
-      (stayed_row row choice.ready f)
+      subst (λ (cs : Partitions). RowTold order row argument before (card_with d (answered d row true (stays d.kind row choice t)) announced cs)
+      (reply_of d row t false (doubt_of choice.error) choice.ready)) left
+      (stayed_row row choice choice.ready f)
 
   -- a row, by the behavior
   pub behaves_law : (behavior : Behavior) (row : Row) (contents' : Partitions) → RowLegal row before →
-      LeavesBlocks (does d (row_deed behavior row) row argument (choice_of d behavior row t.checked) t).erases d t.mode.partition contents contents' →
+      LeavesBlocks (does d (row_deed behavior.deed row) row argument (choice_of d behavior row t.checked) t).erases d t.mode.partition contents contents' →
       RowTold order row argument before
-      (card_with d (does d (row_deed behavior row) row argument (choice_of d behavior row t.checked) t).after
-      (announced_by (row_deed behavior row) row announced) contents')
-      (does d (row_deed behavior row) row argument (choice_of d behavior row t.checked) t).reply
+      (card_with d (does d (row_deed behavior.deed row) row argument (choice_of d behavior row t.checked) t).after
+      (announced_by (row_deed behavior.deed row) row announced) contents')
+      (does d (row_deed behavior.deed row) row argument (choice_of d behavior row t.checked) t).reply
   behaves_law behavior row contents' legal left =
-      does_law (row_deed behavior row) row (choice_of d behavior row t.checked) contents' (deed_fits behavior row) (choice_fits d behavior row t.checked)
+      does_law (row_deed behavior.deed row) row (choice_of d behavior row t.checked) contents' (deed_fits behavior.deed row) (choice_fits d behavior row t.checked)
       legal left

@@ -1,5 +1,5 @@
 -- What comes of an order at a simulated card is an exchange of the tables.
-use Rattle.std.proofs.Common.{◌≡◌, ℕ, ◌/◌, inl, inr, refl, ap, subst, Option, Some, None}
+use Rattle.std.proofs.Common.{◌≡◌, ℕ, ◌/◌, Bool, true, false, inl, inr, refl, ap, subst, Option, Some, None}
 use Rattle.std.specs.Prelude.{IfSome}
 use Rattle.sdv_frames.specs.Frame.{IsReply}
 use Rattle.sdv_frames.specs.declared.reply.Reply.{Reply}
@@ -17,7 +17,6 @@ use Rattle.sdv_card.specs.Settled.{Settled}
 use Rattle.sdv_card.specs.States.{own_target}
 use Rattle.sdv_card.specs.Takes.{taken_as_of, matches}
 use Rattle.sdv_behavior.specs.declared.behavior.Behavior.{Behavior}
-use Rattle.sdv_behavior.specs.declared.behavior.Behavior.TheVariants.{IsSlow, LosesCommandWhileBusy, ReportsErrorWhileBusy}
 use Rattle.sdv_behavior.specs.declared.card_desc.CardDesc.{CardDesc}
 use Rattle.sdv_behavior.specs.declared.card_state.CardState.{CardState}
 use Rattle.sdv_behavior.specs.CardOf.{card_with}
@@ -35,7 +34,7 @@ pub record SettledTold (way : TakenAs) (order : Order) (argument : ℕ) (t u : C
 
 -- the blocks that the host announced last
 abbrev pub announced_as : Behavior → TakenAs → ℕ → ℕ
-announced_as behavior (By row) before = announced_by (row_deed behavior row) row before
+announced_as behavior (By row) before = announced_by (row_deed behavior.deed row) row before
 announced_as behavior way before = before
 
 module _ (d : CardDesc) (is : IsDescribed d) (csd : IsRegister 15 d.csd) (behavior : Behavior) (order : Order) (argument : ℕ) (announced : ℕ)
@@ -56,22 +55,18 @@ module _ (d : CardDesc) (is : IsDescribed d) (csd : IsRegister 15 d.csd) (behavi
   settles s None e = inl refl
   settles s (Some state) e = inr (state, e, refl)
 
-  pub settled_law : (b : Behavior) (s : CardState) → Settled (card_with d s announced contents) (card_with d (settled_by b s) announced contents)
-  settled_law IsSlow s = inl refl
-  settled_law LosesCommandWhileBusy s = inl refl
-  settled_law ReportsErrorWhileBusy s = inl refl
-  settled_law b s = settles s (own_target s.state s.transfer) refl
+  pub settled_law : (b : Bool) (s : CardState) → Settled (card_with d s announced contents) (card_with d (settled_by b s) announced contents)
+  settled_law false s = inl refl
+  settled_law true s = settles s (own_target s.state s.transfer) refl
 
 -- the card's own step leaves the mode
 stepped_mode : (s : CardState) (o : Option State) → s.mode ≡ (stepped_to o s).mode
 stepped_mode s None = refl
 stepped_mode s (Some state) = refl
 
-settled_mode : (b : Behavior) (s : CardState) → s.mode ≡ (settled_by b s).mode
-settled_mode IsSlow s = refl
-settled_mode LosesCommandWhileBusy s = refl
-settled_mode ReportsErrorWhileBusy s = refl
-settled_mode b s = stepped_mode s (own_target s.state s.transfer)
+settled_mode : (b : Bool) (s : CardState) → s.mode ≡ (settled_by b s).mode
+settled_mode false s = refl
+settled_mode true s = stepped_mode s (own_target s.state s.transfer)
 
 -- an exchange of the tables, as the reply tells it
 pub record Told (order : Order) (argument : ℕ) (c u : Card) (reply : Option Reply) : Type 0 where
@@ -82,7 +77,7 @@ pub record Told (order : Order) (argument : ℕ) (c u : Card) (reply : Option Re
 
 -- how the card takes the order, as it is when the command comes
 abbrev pub way_of : Behavior → Order → ℕ → CardState → TakenAs
-way_of behavior order argument s = let t = settled_by behavior s in taken_as_of order t.app (matches t.rca (argument / 65536))
+way_of behavior order argument s = let t = settled_by behavior.settles s in taken_as_of order t.app (matches t.rca (argument / 65536))
 
 pub hear_law : (d : CardDesc) → IsDescribed d → IsRegister 15 d.csd →
     (behavior : Behavior) (order : Order) (argument announced : ℕ) (s : CardState) (contents contents' : Partitions) →
@@ -92,11 +87,11 @@ pub hear_law : (d : CardDesc) → IsDescribed d → IsRegister 15 d.csd →
     (card_with d (hear d behavior order argument s).after (announced_as behavior (way_of behavior order argument s) announced) contents')
     (hear d behavior order argument s).reply
 hear_law d is csd behavior order argument announced s contents contents' legal left =
-    let t : CardState = settled_by behavior s in
-    let settled = settled_law d is csd behavior order argument announced contents contents' behavior s in
+    let t : CardState = settled_by behavior.settles s in
+    let settled = settled_law d is csd behavior order argument announced contents contents' behavior.settles s in
     let r = done_law d is csd behavior order argument announced contents contents' (way_of behavior order argument s) t
     (legal (card_with d t announced contents) settled)
-    (subst (λ (m : Mode). LeavesBlocks (hear d behavior order argument s).erases d m.partition contents contents') (settled_mode behavior s) left) in
+    (subst (λ (m : Mode). LeavesBlocks (hear d behavior order argument s).erases d m.partition contents contents') (settled_mode behavior.settles s) left) in
     record {
       answer = r.answer;
       told = r.told;

@@ -1,3 +1,4 @@
+pub mod Codes
 pub mod Told
 pub mod TakenLaw
 pub mod WordLaws

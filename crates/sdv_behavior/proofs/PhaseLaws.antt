@@ -1,5 +1,5 @@
 -- The phases and waits of a simulator are steps of the card that it shows.
-use Rattle.std.proofs.Common.{◌≡◌, ◌⊎◌, ℕ, ◌≤◌, ◌<◌, ◌+◌, ◌==◌, ◌||◌, ◌&&◌, inl, inr, refl, sym, ap, subst, ◌∙◌, true, false, List, ◌∷◌, length, take, drop, Option, Some, None, eq-eqb, le-leb, arith}
+use Rattle.std.proofs.Common.{◌≡◌, ◌⊎◌, ℕ, ◌≤◌, ◌<◌, ◌+◌, ◌==◌, ◌||◌, ◌&&◌, inl, inr, refl, sym, ap, subst, ◌∙◌, Bool, true, false, List, [], ◌∷◌, length, take, drop, Option, Some, None, eq-eqb, le-leb, arith}
 use Rattle.sdv_card.specs.declared.answer.DataEnd.{DataEnd}
 use Rattle.sdv_card.specs.declared.answer.DataEnd.TheVariants.{Ok, Cut}
 use Rattle.sdv_card.specs.declared.answer.WaitEnd.{WaitEnd}
@@ -26,8 +26,7 @@ use Rattle.sdv_behavior.specs.CardOf.{card_of, card_with}
 use Rattle.sdv_behavior.specs.Layout.{partition_size, image_size, contents_of}
 use Rattle.sdv_behavior.proofs.LayoutLaws.{OnlyThere, shown_there, only_there, contents_sized, whole_sized}
 use Rattle.sdv_image.specs.Images.{Shown, OnlyThese, OnlyAt, AreSized}
-use Rattle.sdv_behavior.specs.RowTaken.{first_of}
-use Rattle.sdv_behavior.specs.SimSteps.{SimState, card_shown, shown_card, Goes, length_fits, next_place, first_place, phase_over, register_of, padded, IfEndedWell, receives, receives_register, takes_blocks, Receives, ReceivesRegister, TakesBlocks, StoresBlocks, IsCutOff, wait_state, Waits}
+use Rattle.sdv_behavior.specs.SimSteps.{SimState, behavior_of, card_shown, shown_card, Goes, length_fits, next_place, placed_at, moved_to, register_of, padded, IfEndedWell, receives, receives_register, takes_blocks, Receives, ReceivesRegister, TakesBlocks, StoresBlocks, IsCutOff, IsUnstored, with_error, waited_in, wait_state, Waits}
 use Rattle.sdv_behavior.proofs.CountLaw.{Knows, no}
 use Rattle.sdv_behavior.proofs.RegisterLaws.{register_true}
 
@@ -76,54 +75,74 @@ fits d s count announced contents due knows on_card same =
 
 -- WHERE THE CARD IS AFTERWARDS
 
-record AfterPhase (x : Transfer) (end : DataEnd) : Type 0 where
+-- the place where the card is that moves on or not
+record AfterPhase (moves : Bool) (x : Transfer) (end : DataEnd) : Type 0 where
   place : Place
-  rest : List Place
-  places : after_phase x end ≡ place ∷ rest
-  unknown : count_known place.transfer ≡ false
-
-first : {x : Transfer} {end : DataEnd} (place : Place) (rest : List Place) → after_phase x end ≡ place ∷ rest → count_known place.transfer ≡ false →
-    AfterPhase x end
-first place rest e u = record { place = place; rest = rest; places = e; unknown = u }
-
-read_after : (x : Transfer) (end : DataEnd) → read_due x ≡ true → AfterPhase x end
-read_after ReadDue Ok e = first _ _ refl refl
-read_after ReadDue Cut e = first _ _ refl refl
-read_after OpenReadDue end e = first _ _ refl refl
-read_after x end e = no e
-
-register_after : (x : Transfer) (end : DataEnd) → register_due x ≡ true → AfterPhase x end
-register_after ScrDue Ok e = first _ _ refl refl
-register_after ScrDue Cut e = first _ _ refl refl
-register_after SdStatusDue Ok e = first _ _ refl refl
-register_after SdStatusDue Cut e = first _ _ refl refl
-register_after ExtCsdDue Ok e = first _ _ refl refl
-register_after ExtCsdDue Cut e = first _ _ refl refl
-register_after x end e = no e
-
-write_after : (x : Transfer) (end : DataEnd) → write_due x ≡ true → AfterPhase x end
-write_after WriteDue Ok e = first _ _ refl refl
-write_after WriteDue Cut e = first _ _ refl refl
-write_after OpenWriteDue end e = first _ _ refl refl
-write_after x end e = no e
-
--- where a card is that took the blocks of a phase: a place that the tables have however the host sees the end
-record AfterTaken (x : Transfer) (end : DataEnd) : Type 0 where
-  place : Place
-  rest : List Place
-  places : after_phase x Ok ≡ place ∷ rest
+  over : (s : CardState) → moved_to moves (after_phase x end) s ≡ placed_at place s
   may : May (after_phase x end) place
   unknown : count_known place.transfer ≡ false
 
-taken_at : {x : Transfer} {end : DataEnd} (place : Place) (rest : List Place) → after_phase x Ok ≡ place ∷ rest → May (after_phase x end) place →
-    count_known place.transfer ≡ false → AfterTaken x end
-taken_at place rest e m u = record { place = place; rest = rest; places = e; may = m; unknown = u }
+only : {moves : Bool} {x : Transfer} {end : DataEnd} (place : Place) → after_phase x end ≡ place ∷ [] → count_known place.transfer ≡ false →
+    AfterPhase moves x end
+only {moves = moves} place e u = record {
+  place = place;
+  over = λ s. ap (λ ps. moved_to moves ps s) e;
+  may = subst (λ ps. May ps place) (sym e) (here refl);
+  unknown = u;
+}
 
-taken_after : (x : Transfer) (end : DataEnd) → write_due x ≡ true → AfterTaken x end
-taken_after WriteDue Ok e = taken_at _ _ refl (here refl) refl
-taken_after WriteDue Cut e = taken_at _ _ refl (there (here refl)) refl
-taken_after OpenWriteDue end e = taken_at _ _ refl (here refl) refl
-taken_after x end e = no e
+either : (moves : Bool) {x : Transfer} {end : DataEnd} (place second : Place) → after_phase x end ≡ place ∷ second ∷ [] → count_known place.transfer ≡ false →
+    count_known second.transfer ≡ false → AfterPhase moves x end
+either false place second e u v = record {
+  place = place;
+  over = λ s. ap (λ ps. moved_to false ps s) e;
+  may = subst (λ ps. May ps place) (sym e) (here refl);
+  unknown = u;
+}
+either true place second e u v = record {
+  place = second;
+  over = λ s. ap (λ ps. moved_to true ps s) e;
+  may = subst (λ ps. May ps second) (sym e) (there (here refl));
+  unknown = v;
+}
+
+read_after : (moves : Bool) (x : Transfer) (end : DataEnd) → read_due x ≡ true → AfterPhase moves x end
+read_after moves ReadDue Ok e = only _ refl refl
+read_after moves ReadDue Cut e = either moves _ _ refl refl refl
+read_after moves OpenReadDue end e = only _ refl refl
+read_after moves x end e = no e
+
+register_after : (moves : Bool) (x : Transfer) (end : DataEnd) → register_due x ≡ true → AfterPhase moves x end
+register_after moves ScrDue Ok e = only _ refl refl
+register_after moves ScrDue Cut e = either moves _ _ refl refl refl
+register_after moves SdStatusDue Ok e = only _ refl refl
+register_after moves SdStatusDue Cut e = either moves _ _ refl refl refl
+register_after moves ExtCsdDue Ok e = only _ refl refl
+register_after moves ExtCsdDue Cut e = either moves _ _ refl refl refl
+register_after moves x end e = no e
+
+write_after : (moves : Bool) (x : Transfer) (end : DataEnd) → write_due x ≡ true → AfterPhase moves x end
+write_after moves WriteDue Ok e = only _ refl refl
+write_after moves WriteDue Cut e = either moves _ _ refl refl refl
+write_after moves OpenWriteDue end e = only _ refl refl
+write_after moves x end e = no e
+
+-- where a card is that took the blocks of a phase: a place that the tables have however the host sees the end
+record AfterTaken (moves : Bool) (x : Transfer) (end : DataEnd) : Type 0 where
+  place : Place
+  over : (s : CardState) → moved_to moves (after_phase x Ok) s ≡ placed_at place s
+  may : May (after_phase x end) place
+  unknown : count_known place.transfer ≡ false
+
+taken_only : {moves : Bool} {x : Transfer} {end : DataEnd} (place : Place) → after_phase x Ok ≡ place ∷ [] → May (after_phase x end) place →
+    count_known place.transfer ≡ false → AfterTaken moves x end
+taken_only {moves = moves} place e m u = record { place = place; over = λ s. ap (λ ps. moved_to moves ps s) e; may = m; unknown = u }
+
+taken_after : (moves : Bool) (x : Transfer) (end : DataEnd) → write_due x ≡ true → AfterTaken moves x end
+taken_after moves WriteDue Ok e = taken_only _ refl (here refl) refl
+taken_after moves WriteDue Cut e = taken_only _ refl (there (here refl)) refl
+taken_after moves OpenWriteDue end e = taken_only _ refl (here refl) refl
+taken_after moves x end e = no e
 
 -- THE DATA LINES of a legal phase are the card's
 
@@ -145,13 +164,11 @@ module _ (s s' : SimState) (all : List Block) (shows : s.blocks ≡ Some all) (a
 
   -- the card at another place
   abbrev at : Place → CardState
-  at place = record s.card { state = place.state; transfer = place.transfer }
+  at place = placed_at place s.card
 
-  over_is : {end : DataEnd} (a : AfterPhase s.card.transfer end) → phase_over end s.card ≡ at a.place
-  over_is a = ap (λ ps. first_place ps s.card) a.places
-
-  may : {end : DataEnd} (a : AfterPhase s.card.transfer end) → May (after_phase s.card.transfer end) a.place
-  may a = subst (λ ps. May ps a.place) (sym a.places) (here refl)
+  -- where a card moves on
+  abbrev moves : Bool
+  moves = (behavior_of s).moves_on
 
   -- the simulator shows the card afterwards
   now_shown : (card : CardState) (all' : List Block) → Some all' ≡ s'.blocks → Goes card s s' → card_shown s' ≡ Some (card_of s.desc card all')
@@ -175,13 +192,13 @@ module _ (s s' : SimState) (all : List Block) (shows : s.blocks ≡ Some all) (a
       Kept card_shown (ReceiveBlocks lines count) before (BlocksIn end blocks) s'
   receive_law lines count end blocks legal on_card bounds size r =
       let due = read_is_due s.card.state s.card.transfer legal in
-      let a = read_after s.card.transfer end due in
+      let a = read_after moves s.card.transfer end due in
       record {
         after = card_with s.desc (at a.place) announced contents;
-        step = record { due = due; size = size; truth = truth end r.truth; moved = record { place = a.place; may = may a; card = refl } };
+        step = record { due = due; size = size; truth = truth end r.truth; moved = record { place = a.place; may = a.may; card = refl } };
         shown = record {
           shown = card_of s.desc (at a.place) all;
-          shows = now_shown (at a.place) all (sym shows ∙ r.same) (subst (λ c. Goes c s s') (over_is a) r.goes);
+          shows = now_shown (at a.place) all (sym shows ∙ r.same) (subst (λ c. Goes c s s') (a.over s.card) r.goes);
           same = refl;
           count = λ k. no (sym a.unknown ∙ k);
         };
@@ -223,13 +240,13 @@ module _ (s s' : SimState) (all : List Block) (shows : s.blocks ≡ Some all) (a
       Kept card_shown (ReceiveRegister lines count) before (RegisterIn end bytes) s'
   register_law lines count end bytes legal size r =
       let due = register_is_due s.card.state s.card.transfer legal in
-      let a = register_after s.card.transfer end due in
+      let a = register_after moves s.card.transfer end due in
       record {
         after = card_with s.desc (at a.place) announced contents;
-        step = record { due = due; size = size; truth = truth end r.truth; moved = record { place = a.place; may = may a; card = refl } };
+        step = record { due = due; size = size; truth = truth end r.truth; moved = record { place = a.place; may = a.may; card = refl } };
         shown = record {
           shown = card_of s.desc (at a.place) all;
-          shows = now_shown (at a.place) all (sym shows ∙ r.same.blocks) (subst (λ c. Goes c s s') (over_is a) r.goes);
+          shows = now_shown (at a.place) all (sym shows ∙ r.same.blocks) (subst (λ c. Goes c s s') (a.over s.card) r.goes);
           same = refl;
           count = λ k. no (sym a.unknown ∙ k);
         };
@@ -269,47 +286,65 @@ module _ (s s' : SimState) (all : List Block) (shows : s.blocks ≡ Some all) (a
   -- where a write leaves the card, and what it leaves in it
   record AfterWrite (end : DataEnd) (blocks : List Block) : Type 0 where
     place : Place
-    goes : Goes (at place) s s'
+    error : Bool
+    goes : Goes (record (at place) { unshown_error = error }) s s'
     may : May (after_phase s.card.transfer end) place
     unknown : count_known place.transfer ≡ false
     stored : (all' : List Block) → Some all' ≡ s'.blocks →
-        StoredOrNot end before blocks (card_with s.desc (at place) announced (contents_of s.desc all'))
+        StoredOrNot end before blocks (card_with s.desc (record (at place) { unshown_error = error }) announced (contents_of s.desc all'))
 
   -- the card stores the blocks, whatever the host sees
   after_stored : (end : DataEnd) (blocks : List Block) → write_due s.card.transfer ≡ true → length blocks ≡ announced →
       s.card.next_block + announced ≤ partition_size s.desc s.card.mode.partition → StoresBlocks end blocks s s' → AfterWrite end blocks
   after_stored end blocks due size room r = record {
     place = a.place;
-    goes = subst (λ c. Goes c s s') (ap (λ ps. first_place ps s.card) a.places) r.goes;
+    error = s.card.unshown_error;
+    goes = subst (λ c. Goes c s s') (a.over s.card) r.goes;
     may = a.may;
     unknown = a.unknown;
-    stored = stored end (at a.place);
+    stored = stored end;
   }
     where
-      a : AfterTaken s.card.transfer end
-      a = taken_after s.card.transfer end due
+      a : AfterTaken moves s.card.transfer end
+      a = taken_after moves s.card.transfer end due
 
-      stored : (end : DataEnd) (card : CardState) (all' : List Block) → Some all' ≡ s'.blocks →
-          StoredOrNot end before blocks (card_with s.desc card announced (contents_of s.desc all'))
-      stored Ok card all' e = inl (record { stored = sym (moved_blocks blocks s'.blocks all' e size room r.stored); error = refl })
-      stored Cut card all' e = refl
+      stored : (end : DataEnd) (all' : List Block) → Some all' ≡ s'.blocks →
+          StoredOrNot end before blocks (card_with s.desc (at a.place) announced (contents_of s.desc all'))
+      stored Ok all' e = inl (record { stored = sym (moved_blocks blocks s'.blocks all' e size room r.stored); error = refl })
+      stored Cut all' e = refl
 
   after_cut : (end : DataEnd) (blocks : List Block) → write_due s.card.transfer ≡ true → IsCutOff end s s' → AfterWrite end blocks
   after_cut Ok blocks due r = absurd (let f : Cut ≡ Ok = r.end_is in cc)
   after_cut Cut blocks due r =
-      let a = write_after s.card.transfer Cut due in
+      let a = write_after moves s.card.transfer Cut due in
       record {
         place = a.place;
-        goes = subst (λ c. Goes c s s') (over_is a) r.goes;
-        may = may a;
+        error = s.card.unshown_error;
+        goes = subst (λ c. Goes c s s') (a.over s.card) r.goes;
+        may = a.may;
         unknown = a.unknown;
         stored = λ all' e. refl;
       }
 
+  -- nothing is stored, and a later status shows the error
+  after_failed : (end : DataEnd) (blocks : List Block) → write_due s.card.transfer ≡ true → IsUnstored end s s' → AfterWrite end blocks
+  after_failed Cut blocks due r = absurd (let f : Ok ≡ Cut = r.end_is in cc)
+  after_failed Ok blocks due r =
+      let a = write_after moves s.card.transfer Ok due in
+      record {
+        place = a.place;
+        error = true;
+        goes = subst (λ (c : CardState). Goes (with_error c) s s') (a.over s.card) r.goes;
+        may = a.may;
+        unknown = a.unknown;
+        stored = λ all' e. inr refl;
+      }
+
   after_write : (end : DataEnd) (blocks : List Block) → write_due s.card.transfer ≡ true → length blocks ≡ announced →
-      s.card.next_block + announced ≤ partition_size s.desc s.card.mode.partition → StoresBlocks end blocks s s' ⊎ IsCutOff end s s' → AfterWrite end blocks
+      s.card.next_block + announced ≤ partition_size s.desc s.card.mode.partition → StoresBlocks end blocks s s' ⊎ (IsCutOff end s s' ⊎ IsUnstored end s s') → AfterWrite end blocks
   after_write end blocks due size room (inl r) = after_stored end blocks due size room r
-  after_write end blocks due size room (inr r) = after_cut end blocks due r
+  after_write end blocks due size room (inr (inl r)) = after_cut end blocks due r
+  after_write end blocks due size room (inr (inr r)) = after_failed end blocks due r
 
   pub give_law : (lines : Width) (end : DataEnd) (blocks : List Block) → ContentsFit before → give_legal s.card.state s.card.transfer ≡ true →
       TransferOnCard before → length blocks ≡ announced → TakesBlocks end blocks s s' →
@@ -319,7 +354,7 @@ module _ (s s' : SimState) (all : List Block) (shows : s.blocks ≡ Some all) (a
       let a = after_write end blocks due bounds has_room r.taken in
       let w = written end blocks fit (subst (λ (n : ℕ). s.card.next_block + n ≤ partition_size s.desc s.card.mode.partition) (sym bounds) has_room) r in
       record {
-        after = card_with s.desc (at a.place) announced (contents_of s.desc w.all');
+        after = card_with s.desc (record (at a.place) { unshown_error = a.error }) announced (contents_of s.desc w.all');
         step = record {
           due = due;
           others = record {
@@ -335,8 +370,8 @@ module _ (s s' : SimState) (all : List Block) (shows : s.blocks ≡ Some all) (a
           moved = record { place = a.place; may = a.may; card = refl };
         };
         shown = record {
-          shown = card_of s.desc (at a.place) w.all';
-          shows = now_shown (at a.place) w.all' w.shown a.goes;
+          shown = card_of s.desc (record (at a.place) { unshown_error = a.error }) w.all';
+          shows = now_shown (record (at a.place) { unshown_error = a.error }) w.all' w.shown a.goes;
           same = refl;
           count = λ k. no (sym a.unknown ∙ k);
         };
@@ -346,20 +381,22 @@ module _ (s s' : SimState) (all : List Block) (shows : s.blocks ≡ Some all) (a
       has_room = room (write_blocks_due s.card.transfer (write_is_due s.card.state s.card.transfer legal)) on_card
 
   -- a wait ends in a state that the tables have
-  wait_may : (state : State) (end : WaitEnd) → wait_legal state ≡ true → May (after_wait state end) (first_of (after_wait state end) state)
-  wait_may Tran end e = here refl
-  wait_may Prg Over e = here refl
-  wait_may Prg Late e = here refl
-  wait_may state end e = no e
+  wait_may : (on : Bool) (state : State) (end : WaitEnd) → wait_legal state ≡ true →
+      May (after_wait state end) (waited_in on (after_wait state end) state)
+  wait_may on Tran end e = here refl
+  wait_may on Prg Over e = here refl
+  wait_may false Prg Late e = here refl
+  wait_may true Prg Late e = there (here refl)
+  wait_may on state end e = no e
 
   -- only data and receive state have a transfer whose count is known; a wait leaves the transfer
   pub wait_law : (end : WaitEnd) → wait_legal s.card.state ≡ true → Waits end s s' → Kept card_shown AwaitReady before (Waited end) s'
   wait_law end legal w = record {
-    after = card_with s.desc (wait_state s.card.state end s.card) announced contents;
-    step = record { state = first_of (after_wait s.card.state end) s.card.state; may = wait_may s.card.state end legal; card = refl };
+    after = card_with s.desc (wait_state moves s.card.state end s.card) announced contents;
+    step = record { state = waited_in moves (after_wait s.card.state end) s.card.state; may = wait_may moves s.card.state end legal; card = refl };
     shown = record {
-      shown = card_of s.desc (wait_state s.card.state end s.card) all;
-      shows = now_shown (wait_state s.card.state end s.card) all (sym shows ∙ w.same.blocks) w.goes;
+      shown = card_of s.desc (wait_state moves s.card.state end s.card) all;
+      shows = now_shown (wait_state moves s.card.state end s.card) all (sym shows ∙ w.same.blocks) w.goes;
       same = refl;
       count = knows;
     };

@@ -139,10 +139,10 @@ module _ (s s' : SimState) (is : IsDescribed s.desc) (all : List Block) (shows :
     behavior = behavior_of s
 
     abbrev met : Card
-    met = card_with s.desc (settled_by behavior s.card) announced contents
+    met = card_with s.desc (settled_by behavior.settles s.card) announced contents
 
     settles : Settled before met
-    settles = settled_law s.desc is fine.pair.card.csd behavior order argument announced contents contents behavior s.card
+    settles = settled_law s.desc is fine.pair.card.csd behavior order argument announced contents contents behavior.settles s.card
 
     abbrev outcome : Heard
     outcome = hear s.desc behavior order argument s.card
@@ -151,7 +151,7 @@ module _ (s s' : SimState) (is : IsDescribed s.desc) (all : List Block) (shows :
     heard_is =
         ap (λ o. heard_order s.desc behavior o argument s.card) read
         ∙ (ap (λ b. if b then hear s.desc behavior (read_as s.card.preset order) argument s.card else unheard s.card) accepted
-        ∙ hears_same s.desc behavior order s.card.preset argument announced (settled_by behavior s.card) contents sent
+        ∙ hears_same s.desc behavior order s.card.preset argument announced (settled_by behavior.settles s.card) contents sent
         (settled_is_card before met fine.pair.card settles).address (fine.legal.settled met settles))
 
     abbrev after : Partitions → Card
@@ -159,9 +159,9 @@ module _ (s s' : SimState) (is : IsDescribed s.desc) (all : List Block) (shows :
 
     knows_after : Knows outcome.after (announced_as behavior (way_of behavior order argument s.card) announced)
     knows_after =
-        done_count s.desc behavior (way_of behavior order argument s.card) argument (settled_by behavior s.card) announced contents
+        done_count s.desc behavior (way_of behavior order argument s.card) argument (settled_by behavior.settles s.card) announced contents
         (fine.legal.settled met settles)
-        (settled_count behavior s.card announced knows)
+        (settled_count behavior.settles s.card announced knows)
 
     shown_after : (all' : List Block) → Some all' ≡ s'.blocks → s.desc ≡ s'.desc → outcome.after ≡ s'.card →
         Some (card_of s.desc outcome.after all') ≡ card_shown s'

@@ -5,9 +5,10 @@ use Rattle.sdv_registers.specs.declared.kind.Kind.TheVariants.{Sd, Emmc}
 use Rattle.sdv_card.specs.declared.state.State.{State}
 use Rattle.sdv_card.specs.declared.state.State.TheVariants.{Idle, Ready}
 use Rattle.sdv_card.specs.declared.state.Mode.{Mode}
+use Rattle.sdv_card.specs.declared.state.EraseStage.{EraseStage}
 use Rattle.sdv_card.specs.declared.command.Setting.TheVariants.{Access}
 use Rattle.sdv_card.specs.declared.command.Row.{Row}
-use Rattle.sdv_card.specs.declared.command.Row.TheVariants.{Cmd0, Cmd1, Cmd3Sd, Cmd6, Cmd13, Cmd16, Cmd17, Cmd18, Cmd24, Cmd25, Cmd55, Acmd6, Acmd13, Acmd41}
+use Rattle.sdv_card.specs.declared.command.Row.TheVariants.{Cmd0, Cmd1, Cmd3Sd, Cmd6, Cmd13, Cmd16, Cmd17, Cmd18, Cmd23, Cmd24, Cmd25, Cmd55, Acmd6, Acmd13, Acmd41}
 use Rattle.sdv_card.specs.Lists.{May, IsOneOf}
 use Rattle.sdv_card.specs.StateTable.{◌to◌, rows, targets}
 use Rattle.sdv_card.specs.RowRules.{may_reach, app_after, erase_stayed, preset_after, preset_kept, mode_after, mode_stayed, may_switch}
@@ -17,7 +18,6 @@ use Rattle.sdv_card.specs.Legal.{RowLegal}
 use Rattle.sdv_card.specs.Taken.{Taken, Stayed, SameCard, LengthAfter, RcaAfter, BlocksAfter, ContentsAfter}
 use Rattle.sdv_card.proofs.Members.{here, there, May-targets, May-from_targets}
 use Rattle.sdv_behavior.specs.declared.behavior.Behavior.{Behavior}
-use Rattle.sdv_behavior.specs.declared.behavior.Behavior.TheVariants.{IsSlow, FailsSwitch}
 use Rattle.sdv_behavior.specs.declared.card_desc.CardDesc.{CardDesc}
 use Rattle.sdv_behavior.specs.declared.card_state.CardState.{CardState}
 use Rattle.sdv_behavior.specs.declared.choice.Choice.{Choice}
@@ -25,7 +25,7 @@ use Rattle.sdv_behavior.specs.Layout.{boot_capacity}
 use Rattle.sdv_behavior.specs.CardOf.{card_with}
 use Rattle.sdv_behavior.proofs.Described.{IsDescribed}
 use Rattle.sdv_behavior.specs.Heard.{is_ready, switch_fails, choice_of}
-use Rattle.sdv_behavior.specs.RowTaken.{first_of, state_next, rca_next, app_next, length_next, mode_next, preset_next, taken_by, stays}
+use Rattle.sdv_behavior.specs.RowTaken.{first_of, state_next, rca_next, app_next, length_next, mode_next, preset_left, preset_next, erase_left, taken_by, stays}
 
 -- STATE
 
@@ -62,13 +62,13 @@ abbrev pub is_refused : Row → Bool → Bool
 is_refused (Acmd41 false) true = true
 is_refused row block_unit = false
 
-not_ready : (behavior : Behavior) (row : Row) (block_unit checked : Bool) → is_refused row block_unit ≡ true →
-    is_ready behavior row block_unit checked ≡ false
-not_ready IsSlow row block_unit checked e = refl
-not_ready behavior (Acmd41 false) true checked e = refl
-not_ready behavior (Acmd41 false) false checked e = absurd (let f : false ≡ true = e in cc)
-not_ready behavior (Acmd41 true) block_unit checked e = absurd (let f : false ≡ true = e in cc)
-not_ready behavior row block_unit checked e = absurd (let f : false ≡ true = e in cc)
+not_ready : (ready : Bool) (row : Row) (block_unit checked : Bool) → is_refused row block_unit ≡ true →
+    is_ready ready row block_unit checked ≡ false
+not_ready false (Acmd41 false) true checked e = refl
+not_ready true (Acmd41 false) true checked e = refl
+not_ready ready (Acmd41 false) false checked e = absurd (let f : false ≡ true = e in cc)
+not_ready ready (Acmd41 true) block_unit checked e = absurd (let f : false ≡ true = e in cc)
+not_ready ready row block_unit checked e = absurd (let f : false ≡ true = e in cc)
 
 reached_still : (k : Kind) (state : State) {target : State} → May (targets (rows k (Acmd41 false)) state) target → may_reach (Acmd41 false) true state ≡ true
 reached_still Emmc state m = absurd m.one
@@ -105,10 +105,10 @@ not_false : (b : Bool) → not b ≡ false → b ≡ true
 not_false true e = refl
 not_false false e = absurd (let f : true ≡ false = e in cc)
 
-may_succeed : (behavior : Behavior) (row : Row) (boot : ℕ) → switch_fails behavior row boot ≡ false → may_switch row boot false ≡ true
-may_succeed FailsSwitch row boot e = absurd (let f : true ≡ false = e in cc)
-may_succeed behavior (Cmd6 (Access partition)) boot e = not_false (has_partition partition boot) e
-may_succeed behavior row boot e = refl
+may_succeed : (fails : Bool) (row : Row) (boot : ℕ) → switch_fails fails row boot ≡ false → may_switch row boot false ≡ true
+may_succeed true (Cmd6 (Access partition)) boot e = absurd (let f : true ≡ false = e in cc)
+may_succeed false (Cmd6 (Access partition)) boot e = not_false (has_partition partition boot) e
+may_succeed fails row boot e = refl
 
 -- WHAT A CARD CHOOSES is what the tables leave it
 
@@ -118,7 +118,7 @@ pub record ChoiceFits (d : CardDesc) (row : Row) (choice : Choice) : Type 0 wher
 
 pub choice_fits : (d : CardDesc) (behavior : Behavior) (row : Row) (checked : Bool) → ChoiceFits d row (choice_of d behavior row checked)
 choice_fits d behavior row checked =
-    record { ready = not_ready behavior row d.block_unit checked; switch = may_succeed behavior row (boot_capacity d) }
+    record { ready = not_ready behavior.ready row d.block_unit checked; switch = may_succeed behavior.fails_switch row (boot_capacity d) }
 
 -- THE OTHER PARTS
 
@@ -127,15 +127,17 @@ app_law Cmd55 true = there (here refl)
 app_law Cmd55 false = here refl
 app_law row sets = here refl
 
-preset_law : (k : Kind) (row : Row) (preset : ℕ) → May (preset_after k row preset) (preset_next row preset)
-preset_law Sd Cmd0 preset = here refl
-preset_law Sd row preset = here refl
-preset_law Emmc Cmd0 preset = here refl
-preset_law Emmc row preset = here refl
+preset_stays : (k : Kind) (keeps : Bool) (preset : ℕ) → May (preset_kept k preset) (preset_left k keeps preset)
+preset_stays Sd keeps preset = here refl
+preset_stays Emmc true preset = here refl
+preset_stays Emmc false preset = there (here refl)
 
-preset_stays : (k : Kind) (preset : ℕ) → May (preset_kept k preset) preset
-preset_stays Sd preset = here refl
-preset_stays Emmc preset = here refl
+preset_law : (k : Kind) (row : Row) (keeps : Bool) (preset : ℕ) → May (preset_after k row preset) (preset_next k row keeps preset)
+preset_law k Cmd0 keeps preset = here refl
+preset_law k (Cmd18 n) keeps preset = here refl
+preset_law k (Cmd23 n) keeps preset = here refl
+preset_law k (Cmd25 n) keeps preset = here refl
+preset_law k row keeps preset = preset_stays k keeps preset
 
 rca_law : (described : ℕ) (row : Row) (rca : Option ℕ) → 0 < described → described < 65536 → RcaAfter row rca (rca_next described row rca)
 rca_law described Cmd0 rca some fits = refl
@@ -149,10 +151,11 @@ length_law described Cmd0 false length whole = tt
 length_law described Cmd16 block_unit length whole = refl
 length_law described row block_unit length whole = refl
 
-erase_stays : (row : Row) (t : CardState) → May (erase_stayed row t.erase) t.erase
-erase_stays Cmd13 t = here refl
-erase_stays Acmd13 t = here refl
-erase_stays row t = here refl
+erase_stays : (row : Row) (keeps : Bool) (erase : EraseStage) → May (erase_stayed row erase) (erase_left row keeps erase)
+erase_stays Cmd13 keeps erase = here refl
+erase_stays Acmd13 keeps erase = here refl
+erase_stays row true erase = here refl
+erase_stays row false erase = there (here refl)
 
 -- the blocks that the host announced last, by what it announces with a row
 abbrev pub announced_with : Row → ℕ → ℕ
@@ -162,13 +165,21 @@ announced_with Cmd24 before = 1
 announced_with (Cmd25 n) before = n
 announced_with row before = before
 
-blocks_law : (d : CardDesc) (row : Row) (argument : ℕ) (choice : Choice) (t : CardState) (announced : ℕ) (contents contents' : Partitions) →
-    BlocksAfter row argument (card_with d t announced contents) (card_with d (taken_by d row argument choice t) (announced_with row announced) contents')
-blocks_law d Cmd17 argument choice t announced contents contents' = record { block = refl; count_is = refl }
-blocks_law d (Cmd18 n) argument choice t announced contents contents' = record { block = refl; count_is = refl }
-blocks_law d Cmd24 argument choice t announced contents contents' = record { block = refl; count_is = refl }
-blocks_law d (Cmd25 n) argument choice t announced contents contents' = record { block = refl; count_is = refl }
-blocks_law d row argument choice t announced contents contents' = record { block = refl; count_is = refl }
+-- the card after a row that it takes, whether it then has an error that no status has shown or not
+abbrev pub taken_with : (error : Bool) → CardDesc → Row → (argument : ℕ) → Choice → CardState → CardState
+taken_with error d row argument choice t = record (taken_by d row argument choice t) { unshown_error = error }
+
+-- one that stays
+abbrev pub stayed_with : (error : Bool) → Kind → Row → Choice → CardState → CardState
+stayed_with error k row choice t = record (stays k row choice t) { unshown_error = error }
+
+blocks_law : (d : CardDesc) (row : Row) (argument : ℕ) (choice : Choice) (t : CardState) (error : Bool) (announced : ℕ) (contents contents' : Partitions) →
+    BlocksAfter row argument (card_with d t announced contents) (card_with d (taken_with error d row argument choice t) (announced_with row announced) contents')
+blocks_law d Cmd17 argument choice t error announced contents contents' = record { block = refl; count_is = refl }
+blocks_law d (Cmd18 n) argument choice t error announced contents contents' = record { block = refl; count_is = refl }
+blocks_law d Cmd24 argument choice t error announced contents contents' = record { block = refl; count_is = refl }
+blocks_law d (Cmd25 n) argument choice t error announced contents contents' = record { block = refl; count_is = refl }
+blocks_law d row argument choice t error announced contents contents' = record { block = refl; count_is = refl }
 
 same_card : (d : CardDesc) (t u : CardState) (n m : ℕ) (contents contents' : Partitions) → SameCard (card_with d t n contents) (card_with d u m contents')
 same_card d t u n m contents contents' =
@@ -189,39 +200,40 @@ same_card d t u n m contents contents' =
 
 module _ (d : CardDesc) (is : IsDescribed d) (row : Row) (argument : ℕ) (t : CardState) (announced : ℕ) (contents : Partitions) where
   pub taken_law : (choice : Choice) (contents' : Partitions) → ChoiceFits d row choice →
-      RowLegal row (card_with d t announced contents) →
-      ContentsAfter row (card_with d t announced contents) (card_with d (taken_by d row argument choice t) (announced_with row announced) contents') →
+      RowLegal row (card_with d t announced contents) → (error : Bool) →
+      ContentsAfter row (card_with d t announced contents) (card_with d (taken_with error d row argument choice t) (announced_with row announced) contents') →
       (heard : Bool) →
-      Taken row heard argument (card_with d t announced contents) (card_with d (taken_by d row argument choice t) (announced_with row announced) contents')
-  taken_law choice contents' fits legal left heard =
+      Taken row heard argument (card_with d t announced contents) (card_with d (taken_with error d row argument choice t) (announced_with row announced) contents')
+  taken_law choice contents' fits legal error left heard =
       let m = May-targets legal.has_row in
       record {
-        same = same_card d t (taken_by d row argument choice t) announced (announced_with row announced) contents contents';
+        same = same_card d t (taken_with error d row argument choice t) announced (announced_with row announced) contents contents';
         state = state_law d.kind row choice.ready t.state m;
         reached = reached_law d.kind row d.block_unit choice.ready t.state fits.ready m;
         app = app_law row choice.app;
         erase = refl;
         block_length = length_law d.block_length row d.block_unit t.block_length is.length;
-        preset = preset_law d.kind row t.preset;
+        preset = preset_law d.kind row choice.keeps_preset t.preset;
         rca = rca_law d.rca row t.rca is.some_address is.address_fits;
         transfer = refl;
         mode = mode_law row heard choice.switch_fails t.state t.mode;
         switched = switch_law row (boot_capacity d) choice.switch_fails t.mode fits.switch;
-        blocks = blocks_law d row argument choice t announced contents contents';
+        blocks = blocks_law d row argument choice t error announced contents contents';
         contents = left;
       }
 
-  pub stayed_law : Stayed row true (card_with d t announced contents) (card_with d (stays t) announced contents)
-  stayed_law = record {
-    same = same_card d t (stays t) announced announced contents contents;
+  pub stayed_law : (heard error : Bool) (choice : Choice) →
+      Stayed row heard (card_with d t announced contents) (card_with d (stayed_with error d.kind row choice t) announced contents)
+  stayed_law heard error choice = record {
+    same = same_card d t (stayed_with error d.kind row choice t) announced announced contents contents;
     state = refl;
     app = refl;
-    erase = erase_stays row t;
+    erase = erase_stays row choice.keeps_erase t.erase;
     block_length = refl;
-    preset = preset_stays d.kind t.preset;
+    preset = preset_stays d.kind choice.keeps_preset t.preset;
     rca = refl;
     transfer = refl;
-    mode = mode_stays row true t.state t.mode;
+    mode = mode_stays row heard t.state t.mode;
     blocks = record { block = refl; count_is = refl };
     contents = refl;
   }

@@ -10,7 +10,10 @@ use Rattle.sdv_registers.specs.Ocr.{is_powered_up, ccs, access_mode, voltage_win
 use Rattle.sdv_card.specs.declared.state.State.{State}
 use Rattle.sdv_card.specs.declared.state.State.TheVariants.{Idle}
 use Rattle.sdv_card.specs.States.{state_number}
-use Rattle.sdv_behavior.specs.Words.{status_word, low_word, address_word, conditions_word}
+use Rattle.sdv_behavior.specs.declared.behavior.StatusError.{StatusError}
+use Rattle.sdv_behavior.specs.declared.behavior.StatusError.TheVariants.{Nothing, General, OutOfRange, EraseSequence, IllegalCommand}
+use Rattle.sdv_behavior.specs.Replies.{error_shown}
+use Rattle.sdv_behavior.specs.Words.{leaves_doubt, doubt_of, status_word, low_word, address_word, conditions_word}
 
 -- CARD STATUS
 
@@ -22,24 +25,61 @@ pub record StatusShows (word : ℕ) (s : State) (a w e : Bool) : Type 0 where
   pub error : has_doubt word ≡ e
 
 -- each word by its bits
-pub status_shows : (app switch error : Bool) (state : State) → StatusShows (status_word state app switch error) state app switch error
+pub status_shows : (app switch : Bool) (error : StatusError) (state : State) →
+    StatusShows (status_word state app switch error) state app switch (leaves_doubt error)
 unfolding bits number_of
-status_shows false false false Idle = record { is_word = lit< tt; state = refl; app = refl; switch = refl; error = refl }
-status_shows false false false state = record { is_word = lit< tt; state = refl; app = refl; switch = refl; error = refl }
-status_shows false false true Idle = record { is_word = lit< tt; state = refl; app = refl; switch = refl; error = refl }
-status_shows false false true state = record { is_word = lit< tt; state = refl; app = refl; switch = refl; error = refl }
-status_shows false true false Idle = record { is_word = lit< tt; state = refl; app = refl; switch = refl; error = refl }
-status_shows false true false state = record { is_word = lit< tt; state = refl; app = refl; switch = refl; error = refl }
-status_shows false true true Idle = record { is_word = lit< tt; state = refl; app = refl; switch = refl; error = refl }
-status_shows false true true state = record { is_word = lit< tt; state = refl; app = refl; switch = refl; error = refl }
-status_shows true false false Idle = record { is_word = lit< tt; state = refl; app = refl; switch = refl; error = refl }
-status_shows true false false state = record { is_word = lit< tt; state = refl; app = refl; switch = refl; error = refl }
-status_shows true false true Idle = record { is_word = lit< tt; state = refl; app = refl; switch = refl; error = refl }
-status_shows true false true state = record { is_word = lit< tt; state = refl; app = refl; switch = refl; error = refl }
-status_shows true true false Idle = record { is_word = lit< tt; state = refl; app = refl; switch = refl; error = refl }
-status_shows true true false state = record { is_word = lit< tt; state = refl; app = refl; switch = refl; error = refl }
-status_shows true true true Idle = record { is_word = lit< tt; state = refl; app = refl; switch = refl; error = refl }
-status_shows true true true state = record { is_word = lit< tt; state = refl; app = refl; switch = refl; error = refl }
+status_shows false false Nothing Idle = record { is_word = lit< tt; state = refl; app = refl; switch = refl; error = refl }
+status_shows false false Nothing state = record { is_word = lit< tt; state = refl; app = refl; switch = refl; error = refl }
+status_shows false true Nothing Idle = record { is_word = lit< tt; state = refl; app = refl; switch = refl; error = refl }
+status_shows false true Nothing state = record { is_word = lit< tt; state = refl; app = refl; switch = refl; error = refl }
+status_shows true false Nothing Idle = record { is_word = lit< tt; state = refl; app = refl; switch = refl; error = refl }
+status_shows true false Nothing state = record { is_word = lit< tt; state = refl; app = refl; switch = refl; error = refl }
+status_shows true true Nothing Idle = record { is_word = lit< tt; state = refl; app = refl; switch = refl; error = refl }
+status_shows true true Nothing state = record { is_word = lit< tt; state = refl; app = refl; switch = refl; error = refl }
+status_shows false false General Idle = record { is_word = lit< tt; state = refl; app = refl; switch = refl; error = refl }
+status_shows false false General state = record { is_word = lit< tt; state = refl; app = refl; switch = refl; error = refl }
+status_shows false true General Idle = record { is_word = lit< tt; state = refl; app = refl; switch = refl; error = refl }
+status_shows false true General state = record { is_word = lit< tt; state = refl; app = refl; switch = refl; error = refl }
+status_shows true false General Idle = record { is_word = lit< tt; state = refl; app = refl; switch = refl; error = refl }
+status_shows true false General state = record { is_word = lit< tt; state = refl; app = refl; switch = refl; error = refl }
+status_shows true true General Idle = record { is_word = lit< tt; state = refl; app = refl; switch = refl; error = refl }
+status_shows true true General state = record { is_word = lit< tt; state = refl; app = refl; switch = refl; error = refl }
+status_shows false false OutOfRange Idle = record { is_word = lit< tt; state = refl; app = refl; switch = refl; error = refl }
+status_shows false false OutOfRange state = record { is_word = lit< tt; state = refl; app = refl; switch = refl; error = refl }
+status_shows false true OutOfRange Idle = record { is_word = lit< tt; state = refl; app = refl; switch = refl; error = refl }
+status_shows false true OutOfRange state = record { is_word = lit< tt; state = refl; app = refl; switch = refl; error = refl }
+status_shows true false OutOfRange Idle = record { is_word = lit< tt; state = refl; app = refl; switch = refl; error = refl }
+status_shows true false OutOfRange state = record { is_word = lit< tt; state = refl; app = refl; switch = refl; error = refl }
+status_shows true true OutOfRange Idle = record { is_word = lit< tt; state = refl; app = refl; switch = refl; error = refl }
+status_shows true true OutOfRange state = record { is_word = lit< tt; state = refl; app = refl; switch = refl; error = refl }
+status_shows false false EraseSequence Idle = record { is_word = lit< tt; state = refl; app = refl; switch = refl; error = refl }
+status_shows false false EraseSequence state = record { is_word = lit< tt; state = refl; app = refl; switch = refl; error = refl }
+status_shows false true EraseSequence Idle = record { is_word = lit< tt; state = refl; app = refl; switch = refl; error = refl }
+status_shows false true EraseSequence state = record { is_word = lit< tt; state = refl; app = refl; switch = refl; error = refl }
+status_shows true false EraseSequence Idle = record { is_word = lit< tt; state = refl; app = refl; switch = refl; error = refl }
+status_shows true false EraseSequence state = record { is_word = lit< tt; state = refl; app = refl; switch = refl; error = refl }
+status_shows true true EraseSequence Idle = record { is_word = lit< tt; state = refl; app = refl; switch = refl; error = refl }
+status_shows true true EraseSequence state = record { is_word = lit< tt; state = refl; app = refl; switch = refl; error = refl }
+status_shows false false IllegalCommand Idle = record { is_word = lit< tt; state = refl; app = refl; switch = refl; error = refl }
+status_shows false false IllegalCommand state = record { is_word = lit< tt; state = refl; app = refl; switch = refl; error = refl }
+status_shows false true IllegalCommand Idle = record { is_word = lit< tt; state = refl; app = refl; switch = refl; error = refl }
+status_shows false true IllegalCommand state = record { is_word = lit< tt; state = refl; app = refl; switch = refl; error = refl }
+status_shows true false IllegalCommand Idle = record { is_word = lit< tt; state = refl; app = refl; switch = refl; error = refl }
+status_shows true false IllegalCommand state = record { is_word = lit< tt; state = refl; app = refl; switch = refl; error = refl }
+status_shows true true IllegalCommand Idle = record { is_word = lit< tt; state = refl; app = refl; switch = refl; error = refl }
+status_shows true true IllegalCommand state = record { is_word = lit< tt; state = refl; app = refl; switch = refl; error = refl }
+
+-- an error of an earlier write is shown by one that leaves a doubt
+pub doubt_is : (error : StatusError) → leaves_doubt (doubt_of error) ≡ true
+doubt_is Nothing = refl
+doubt_is General = refl
+doubt_is OutOfRange = refl
+doubt_is EraseSequence = refl
+doubt_is IllegalCommand = refl
+
+pub doubt_shown : (error : StatusError) (pending : Bool) → leaves_doubt (error_shown (doubt_of error) pending) ≡ true
+doubt_shown error false = doubt_is error
+doubt_shown error true = doubt_is (doubt_of error)
 
 -- OCR
 

@@ -33,7 +33,7 @@ card_with d s announced contents = record {
   transfer = s.transfer;
   next_block = s.next_block;
   announced = announced;
-  unshown_error = false;
+  unshown_error = s.unshown_error;
   contents = contents;
 }
 
@@ -57,4 +57,5 @@ at_start d = record {
   checked = false;
   erase_first = 0;
   erase_last = 0;
+  unshown_error = false;
 }

@@ -1,6 +1,6 @@
 -- Reading the text of a description from left to right: what its front says, and what follows; none where it is no such
 -- front. The laws of reading say that what is read is what the text says by its grammar.
-use Rattle.std.specs.Prelude.{ℕ, List, [], ◌∷◌, length, take, drop, Bool, true, false, ◌&&◌, ◌||◌, ◌==◌, nat_lt, nat_le, codes, Option, Some, None, if◌then◌else◌}
+use Rattle.std.specs.Prelude.{ℕ, List, [], ◌∷◌, length, take, drop, ◌&&◌, ◌||◌, ◌==◌, nat_lt, nat_le, codes, Option, Some, None, if◌then◌else◌}
 use Rattle.sdv_text.specs.Fronts.{◌>>=◌, Read, after, is_end, is_digit, run, number_after}
 use Rattle.sdv_behavior.specs.declared.description.Size.{Size}
 use Rattle.sdv_behavior.specs.declared.description.Description.{Description}

@@ -10,7 +10,8 @@ use Rattle.sdv_card.specs.Responses.{row_index}
 use Rattle.sdv_behavior.specs.declared.card_desc.CardDesc.{CardDesc}
 use Rattle.sdv_behavior.specs.Registers.{cid_of}
 use Rattle.sdv_behavior.specs.declared.card_state.CardState.{CardState}
-use Rattle.sdv_behavior.specs.Words.{status_word, address_word, conditions_word}
+use Rattle.sdv_behavior.specs.declared.behavior.StatusError.{StatusError}
+use Rattle.sdv_behavior.specs.Words.{leaves_doubt, doubt_of, status_word, address_word, conditions_word}
 
 -- the rows whose answer shows bit 5, where they were taken, and CMD55 not as an ordinary command
 abbrev pub shows_app : Row → Bool
@@ -25,17 +26,22 @@ abbrev pub shows_switch : Row → Bool
 shows_switch Cmd13 = true
 shows_switch row = false
 
+-- the error in a status: where one of an earlier write is pending, one that leaves a doubt
+abbrev pub error_shown : StatusError → (pending : Bool) → StatusError
+error_shown error pending = if pending then doubt_of error else error
+
 -- the answer of a card that took the row at t, or stayed; none where it does not answer. app: bit 5 is set where the row
 -- shows it
-abbrev pub reply_of : CardDesc → Row → CardState → (app error ready : Bool) → Option Reply
+abbrev pub reply_of : CardDesc → Row → CardState → (app : Bool) → StatusError → (ready : Bool) → Option Reply
 reply_of d Cmd0 t app error ready = None
 reply_of d Cmd1 t app error ready = Some (R3 (conditions_word Emmc d.block_unit ready))
 reply_of d Cmd2 t app error ready = Some (R2 (cid_of d.kind))
-reply_of d Cmd3Sd t app error ready = Some (R6 (address_word d.rca t.state error))
+reply_of d Cmd3Sd t app error ready = Some (R6 (address_word d.rca t.state (leaves_doubt error)))
 reply_of d Cmd7NotAddressed t app error ready = None
 reply_of d Cmd8Sd t app error ready = if d.version == 2 then Some (R7 0x1aa) else None
 reply_of d Cmd9 t app error ready = Some (R2 d.csd)
 reply_of d Cmd10 t app error ready = Some (R2 (cid_of d.kind))
 reply_of d (Acmd41 high) t app error ready = Some (R3 (conditions_word Sd d.block_unit ready))
 reply_of d row t app error ready =
-    Some (R1 (row_index row) (status_word t.state (shows_app row && app) (shows_switch row && t.mode.error) error))
+    Some (R1 (row_index row) (status_word t.state (shows_app row && app) (shows_switch row && t.mode.error)
+    (error_shown error t.unshown_error)))

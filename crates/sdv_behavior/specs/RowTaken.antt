@@ -3,11 +3,14 @@
 -- Where the tables leave a choice, the one that is made here is this project's own.
 use Rattle.std.specs.Prelude.{Bool, true, false, ℕ, ◌==◌, List, [], ◌∷◌, Option, Some, None, if◌then◌else◌}
 use Rattle.sdv_registers.specs.declared.kind.Kind.{Kind}
+use Rattle.sdv_registers.specs.declared.kind.Kind.TheVariants.{Sd, Emmc}
+use Rattle.sdv_card.specs.declared.state.EraseStage.{EraseStage}
+use Rattle.sdv_card.specs.declared.state.EraseStage.TheVariants.{Outside}
 use Rattle.sdv_card.specs.declared.state.State.{State}
 use Rattle.sdv_card.specs.declared.state.Mode.{Mode}
 use Rattle.sdv_card.specs.declared.command.Setting.TheVariants.{Lines}
 use Rattle.sdv_card.specs.declared.command.Row.{Row}
-use Rattle.sdv_card.specs.declared.command.Row.TheVariants.{Cmd0, Cmd1, Cmd3Sd, Cmd3Emmc, Cmd6, Cmd8Sd, Cmd16, Cmd17, Cmd18, Cmd23, Cmd24, Cmd25, Cmd32, Cmd33, Cmd35, Cmd36, Cmd55, Acmd6, Acmd41}
+use Rattle.sdv_card.specs.declared.command.Row.TheVariants.{Cmd0, Cmd1, Cmd3Sd, Cmd3Emmc, Cmd6, Cmd8Sd, Cmd13, Cmd16, Cmd17, Cmd18, Cmd23, Cmd24, Cmd25, Cmd32, Cmd33, Cmd35, Cmd36, Cmd55, Acmd6, Acmd13, Acmd41}
 use Rattle.sdv_card.specs.Modes.{first_mode, calm, failed, set}
 use Rattle.sdv_card.specs.StateTable.{rows, targets}
 use Rattle.sdv_card.specs.RowRules.{erase_after, transfer_after}
@@ -53,13 +56,17 @@ mode_next (Acmd6 width) fails mode = calm (set (Lines width) mode)
 mode_next (Cmd6 setting) fails mode = if fails then failed mode else calm (set setting mode)
 mode_next row fails mode = calm mode
 
--- PRESET COUNT: it is kept
-abbrev pub preset_next : Row → ℕ → ℕ
-preset_next Cmd0 preset = 0
-preset_next (Cmd18 n) preset = 0
-preset_next (Cmd23 n) preset = n
-preset_next (Cmd25 n) preset = 0
-preset_next row preset = preset
+-- PRESET COUNT: an e.MMC device keeps it or forgets it
+abbrev pub preset_left : Kind → (keeps : Bool) → ℕ → ℕ
+preset_left Sd keeps preset = preset
+preset_left Emmc keeps preset = if keeps then preset else 0
+
+abbrev pub preset_next : Kind → Row → (keeps : Bool) → ℕ → ℕ
+preset_next k Cmd0 keeps preset = 0
+preset_next k (Cmd18 n) keeps preset = 0
+preset_next k (Cmd23 n) keeps preset = n
+preset_next k (Cmd25 n) keeps preset = 0
+preset_next k row keeps preset = preset_left k keeps preset
 
 -- BLOCKS OF A TRANSFER: the block that the argument names; where no count was preset the transfer is
 -- open, with one block
@@ -107,16 +114,28 @@ taken_by d row argument choice t = record {
   block_length = length_next d.block_length row t.block_length;
   erase = erase_after row t.erase;
   mode = mode_next row choice.switch_fails t.mode;
-  preset = preset_next row t.preset;
+  preset = preset_next d.kind row choice.keeps_preset t.preset;
   transfer = transfer_after row t.preset t.transfer;
   next_block = block_next row d.block_unit argument t.next_block;
   announced = announced_next row t.preset t.announced;
   checked = checked_next row t.checked;
   erase_first = first_next row d.block_unit argument t.erase_first;
   erase_last = last_next row d.block_unit argument t.erase_last;
+  unshown_error = t.unshown_error;
 }
 
+-- ERASE STAGE of a card that stays: it is kept, or ended, unless the index is 13
+abbrev pub erase_left : Row → (keeps : Bool) → EraseStage → EraseStage
+erase_left Cmd13 keeps erase = erase
+erase_left Acmd13 keeps erase = erase
+erase_left row keeps erase = if keeps then erase else Outside
+
 -- the state of a card that did not take a command which reached it: the application flag is lost, and a pending switch
--- error, which an answer to CMD13 shows; all else is kept
-abbrev pub stays : CardState → CardState
-stays t = record t { app = false; mode = calm t.mode }
+-- error, which an answer to CMD13 shows
+abbrev pub stays : Kind → Row → Choice → CardState → CardState
+stays k row choice t = record t {
+  app = false;
+  mode = calm t.mode;
+  erase = erase_left row choice.keeps_erase t.erase;
+  preset = preset_left k choice.keeps_preset t.preset;
+}

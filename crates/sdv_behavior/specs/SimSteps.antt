@@ -25,7 +25,8 @@ use Rattle.sdv_controller.specs.declared.wire.WireEnd.{WireEnd}
 use Rattle.sdv_controller.specs.declared.wire.WireEnd.TheVariants.{Silent, Bytes}
 use Rattle.sdv_controller.specs.Wire.{WireCall, WireReturn, Transfer as TransferFrame, OtherCall, Transferred, OtherReturn}
 use Rattle.sdv_behavior.specs.declared.behavior.Behavior.{Behavior}
-use Rattle.sdv_behavior.specs.declared.behavior.Behavior.TheVariants.{IsSlow, CutsPhase, LosesCrcStatus}
+use Rattle.sdv_behavior.specs.declared.behavior.PhaseEnd.{PhaseEnd}
+use Rattle.sdv_behavior.specs.declared.behavior.PhaseEnd.TheVariants as ends
 use Rattle.sdv_behavior.specs.declared.card_desc.CardDesc.{CardDesc}
 use Rattle.sdv_behavior.specs.declared.card_state.CardState.{CardState}
 use Rattle.sdv_behavior.specs.declared.heard.Heard.{Heard}
@@ -36,7 +37,6 @@ use Rattle.sdv_behavior.specs.Heard.{hear, unheard}
 use Rattle.sdv_image.specs.Images.{HasFailed, Shown, OnlyAt, AreSized, ErasedUpTo, zeros}
 use Rattle.sdv_behavior.specs.Layout.{partition_size, partition_place, image_size}
 use Rattle.sdv_behavior.specs.Registers.{scr, sd_status, ext_csd_of}
-use Rattle.sdv_behavior.specs.RowTaken.{first_of}
 use Rattle.sdv_behavior.specs.Schedules.{first_behavior, later_behaviors}
 
 -- a simulator, as its steps see it
@@ -129,27 +129,44 @@ pub record Transfers (heard : Heard) (end : WireEnd) (response : List ℕ) (s s'
 
 -- DATA PHASES
 
-abbrev pub cuts : Behavior → Bool
-cuts CutsPhase = true
-cuts behavior = false
+abbrev pub cuts : PhaseEnd → Bool
+cuts ends.Cut = true
+cuts phase = false
 
 -- a phase from the card ends well, unless the behavior or a failure of the image cuts it
-abbrev pub EndFits : Behavior → (failed failed' : ℕ) → DataEnd → Type 0
-EndFits behavior failed failed' Ok = (cuts behavior ≡ false) × (failed ≡ failed')
-EndFits behavior failed failed' Cut = ((cuts behavior ≡ true) × (failed ≡ failed')) ⊎ HasFailed failed failed'
+abbrev pub EndFits : PhaseEnd → (failed failed' : ℕ) → DataEnd → Type 0
+EndFits phase failed failed' Ok = (cuts phase ≡ false) × (failed ≡ failed')
+EndFits phase failed failed' Cut = ((cuts phase ≡ true) × (failed ≡ failed')) ⊎ HasFailed failed failed'
 
 -- how a phase to the card ends for the host where the card has taken the blocks: well, unless their CRC status is lost
-abbrev pub end_seen : Behavior → DataEnd
-end_seen LosesCrcStatus = Cut
-end_seen behavior = Ok
+abbrev pub end_seen : PhaseEnd → DataEnd
+end_seen ends.CrcStatusLost = Cut
+end_seen phase = Ok
 
--- where the card is after a phase: of more than one place the first, in which a phase that was cut is over
-abbrev pub first_place : List Place → CardState → CardState
-first_place [] s = s
-first_place (place ∷ rest) s = record s { state = place.state; transfer = place.transfer }
+-- a phase to the card ends well for the host, and stores nothing
+abbrev pub fails_later : PhaseEnd → Bool
+fails_later ends.FailsLater = true
+fails_later phase = false
 
-abbrev pub phase_over : DataEnd → CardState → CardState
-phase_over end s = first_place (after_phase s.transfer end) s
+-- the card with an error that a later status shows
+abbrev pub with_error : CardState → CardState
+with_error s = record s { unshown_error = true }
+
+-- of what may follow the first; or, where the card moves on, the second, if there is one
+abbrev pub among : {A : Type 0} → (moves : Bool) → (first : A) → (rest : List A) → A
+among moves first [] = first
+among moves first (second ∷ rest) = if moves then second else first
+
+-- where the card is after a phase
+abbrev pub placed_at : Place → CardState → CardState
+placed_at place s = record s { state = place.state; transfer = place.transfer }
+
+abbrev pub moved_to : (moves : Bool) → List Place → CardState → CardState
+moved_to moves [] s = s
+moved_to moves (place ∷ rest) s = placed_at (among moves place rest) s
+
+abbrev pub phase_over : (moves : Bool) → DataEnd → CardState → CardState
+phase_over moves end s = moved_to moves (after_phase s.transfer end) s
 
 -- a phase uses the card's data lines
 abbrev pub on_lines : CardState → (lines : ℕ) → Bool
@@ -185,8 +202,8 @@ IfEndedWell Ok fact = fact
 IfEndedWell Cut fact = Unit {0}
 
 pub record Receives (end : DataEnd) (blocks : List Block) (s s' : SimState) : Type 0 where
-  pub goes : Goes (phase_over end s.card) s s'
-  pub end_fits : EndFits (behavior_of s) s.failed s'.failed end
+  pub goes : Goes (phase_over (behavior_of s).moves_on end s.card) s s'
+  pub end_fits : EndFits (behavior_of s).phase s.failed s'.failed end
   pub truth : IfEndedWell end (Shown (next_place s.desc s.card) blocks s.blocks)
   pub same : s.blocks ≡ s'.blocks
 
@@ -205,44 +222,56 @@ receives_register s lines count =
 
 -- it asks nothing of the image, so the behavior alone cuts it
 pub record ReceivesRegister (end : DataEnd) (bytes : List ℕ) (s s' : SimState) : Type 0 where
-  pub goes : Goes (phase_over end s.card) s s'
-  pub end_is : (if cuts (behavior_of s) then Cut else Ok) ≡ end
+  pub goes : Goes (phase_over (behavior_of s).moves_on end s.card) s s'
+  pub end_is : (if cuts (behavior_of s).phase then Cut else Ok) ≡ end
   pub truth : IfEndedWell end (bytes ≡ padded (register_of s.card.transfer s.desc s.card.mode) (length bytes))
   pub same : SameImage s s'
 
 -- the card stores the blocks, and goes on as after a phase that ended well, whatever the host sees of the end
 pub record StoresBlocks (end : DataEnd) (blocks : List Block) (s s' : SimState) : Type 0 where
-  pub goes : Goes (phase_over Ok s.card) s s'
-  pub uncut : cuts (behavior_of s) ≡ false
-  pub end_is : end_seen (behavior_of s) ≡ end
+  pub goes : Goes (phase_over (behavior_of s).moves_on Ok s.card) s s'
+  pub uncut : cuts (behavior_of s).phase ≡ false
+  pub works : fails_later (behavior_of s).phase ≡ false
+  pub end_is : end_seen (behavior_of s).phase ≡ end
   pub stored : Shown (next_place s.desc s.card) blocks s'.blocks
   pub failed : s.failed ≡ s'.failed
 
 -- the behavior cuts the phase, and nothing is stored; or a failure of the image does
 pub record IsCutOff (end : DataEnd) (s s' : SimState) : Type 0 where
-  pub goes : Goes (phase_over Cut s.card) s s'
+  pub goes : Goes (phase_over (behavior_of s).moves_on Cut s.card) s s'
   pub end_is : Cut ≡ end
-  pub why : ((cuts (behavior_of s) ≡ true) × SameImage s s')
-      ⊎ ((cuts (behavior_of s) ≡ false) × HasFailed s.failed s'.failed)
+  pub why : ((cuts (behavior_of s).phase ≡ true) × SameImage s s')
+      ⊎ ((cuts (behavior_of s).phase ≡ false) × HasFailed s.failed s'.failed)
 
--- a phase to the card does the one or the other, and changes no block beside those that it addresses
+-- the card stores nothing, and the host sees the phase end well: a later status shows the error
+pub record IsUnstored (end : DataEnd) (s s' : SimState) : Type 0 where
+  pub goes : Goes (with_error (phase_over (behavior_of s).moves_on Ok s.card)) s s'
+  pub end_is : Ok ≡ end
+  pub fails : fails_later (behavior_of s).phase ≡ true
+  pub same : SameImage s s'
+
+-- a phase to the card does one of these, and changes no block beside those that it addresses
 pub record TakesBlocks (end : DataEnd) (blocks : List Block) (s s' : SimState) : Type 0 where
-  pub taken : StoresBlocks end blocks s s' ⊎ IsCutOff end s s'
+  pub taken : StoresBlocks end blocks s s' ⊎ (IsCutOff end s s' ⊎ IsUnstored end s s')
   pub others : OnlyAt (next_place s.desc s.card) (length blocks) s.blocks s'.blocks
   pub fit : AreSized (image_size s.desc) s.blocks → AreSized (image_size s.desc) s'.blocks
 
 -- WAITS
 
-abbrev pub wait_end : Behavior → WaitEnd
-wait_end IsSlow = Late
-wait_end behavior = Over
+abbrev pub wait_end : (ready : Bool) → WaitEnd
+wait_end true = Over
+wait_end false = Late
 
-abbrev pub wait_state : State → WaitEnd → CardState → CardState
-wait_state state end s = record s { state = first_of (after_wait state end) state }
+abbrev pub waited_in : (moves : Bool) → List State → State → State
+waited_in moves [] state = state
+waited_in moves (first ∷ rest) state = among moves first rest
+
+abbrev pub wait_state : (moves : Bool) → State → WaitEnd → CardState → CardState
+wait_state moves state end s = record s { state = waited_in moves (after_wait state end) state }
 
 pub record Waits (end : WaitEnd) (s s' : SimState) : Type 0 where
-  pub goes : Goes (wait_state s.card.state end s.card) s s'
-  pub end_is : (if wait_legal s.card.state then wait_end (behavior_of s) else Over) ≡ end
+  pub goes : Goes (wait_state (behavior_of s).moves_on s.card.state end s.card) s s'
+  pub end_is : (if wait_legal s.card.state then wait_end (behavior_of s).ready else Over) ≡ end
   pub same : SameImage s s'
 
 -- ALL CALLS

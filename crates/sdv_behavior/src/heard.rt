@@ -2,37 +2,22 @@
 
 ghost use Rattle.std.specs.Prelude.{◌≡◌, IfSome};
 ghost use Rattle.sdv_frames.specs.Frame.{HasIndex};
-ghost use Rattle.sdv_behavior.specs.Heard.{settled_by, reports, deed_of, row_deed, is_erase, unheard, does, done_as, hear_at, hear};
+ghost use Rattle.sdv_behavior.specs.Heard.{settled_by, reports, deed_at, row_deed, error_after, is_answered, answered, is_erase, unheard, does, done_as, hear_at, hear};
 ghost use Rattle.sdv_behavior.specs.Commands.{order_read};
 ghost use Rattle.sdv_behavior.specs.SimSteps.{heard_order};
 
 use crate::accepts::accepts;
-use crate::behavior::Behavior;
+use crate::behavior::{Behavior, Deed};
 use crate::card_desc::CardDesc;
 use crate::card_state::CardState;
 use crate::choice::{Choice, choice_of};
 use crate::commands::order_read;
 use crate::replies::reply_of;
 use crate::rows::{stays, taken_by};
+use crate::words::doubt_of;
 use sdv_card::state_table::{matches, own_target, response, taken_as};
 use sdv_card::{Order, Response, Row, TakenAs, Transfer};
 use sdv_frames::{Command, Reply};
-
-/// What a card does with a row.
-#[derive(Clone, Copy)]
-pub enum Deed {
-    /// The command did not reach it.
-    Loses,
-    /// It takes the row, and its answer does not reach the host.
-    TakesUnheard,
-    /// It takes the row and answers.
-    Takes {
-        /// With an error.
-        error: bool,
-    },
-    /// It stays, and answers with an error.
-    Stays,
-}
 
 /// What comes of a command.
 #[derive(Clone, Copy)]
@@ -58,14 +43,13 @@ impl Heard {
     }
 }
 
-/// The card after a step of its own, unless it has none, is slow, or is still busy.
-fn settled_by(behavior: Behavior, s: &CardState) -> CardState
-    ensures { result ≡ settled_by behavior s.now }
+/// The card after a step of its own, unless it has none, or does none.
+fn settled_by(settles: bool, s: &CardState) -> CardState
+    ensures { result ≡ settled_by settles s.now }
 {
-    match (behavior, own_target(s.state, s.transfer)) {
-        (Behavior::IsSlow | Behavior::LosesCommandWhileBusy | Behavior::ReportsErrorWhileBusy, _)
-        | (_, None) => *s,
-        (_, Some(state)) => CardState {
+    match (settles, own_target(s.state, s.transfer)) {
+        (false, _) | (_, None) => *s,
+        (true, Some(state)) => CardState {
             state,
             transfer: Transfer::Nothing,
             ..*s
@@ -83,19 +67,56 @@ fn reports(response: Response) -> bool
     }
 }
 
-/// What the card does with a row.
-fn row_deed(behavior: Behavior, row: Row) -> Deed
-    ensures { result ≡ row_deed behavior row }
+/// What the card does with a row that is answered so: it can stay only where a status or an address answers.
+fn deed_at(deed: Deed, response: Response) -> Deed
+    ensures { result ≡ deed_at deed response }
 {
-    match (row, behavior) {
-        (Row::Cmd0, _) => Deed::Takes { error: false },
-        (_, Behavior::LosesCommand | Behavior::LosesCommandWhileBusy) => Deed::Loses,
-        (_, Behavior::LosesAnswer) => Deed::TakesUnheard,
-        (_, Behavior::ReportsError | Behavior::ReportsErrorWhileBusy) => Deed::Takes {
-            error: reports(response(row)),
-        },
-        (_, Behavior::Refuses) if reports(response(row)) => Deed::Stays,
-        _ => Deed::Takes { error: false },
+    match deed {
+        Deed::Stays if !reports(response) => Deed::Takes,
+        Deed::StaysUnheard if !reports(response) => Deed::TakesUnheard,
+        _ => deed,
+    }
+}
+
+/// What the card does with a row. CMD0 always arrives.
+fn row_deed(deed: Deed, row: Row) -> Deed
+    ensures { result ≡ row_deed deed row }
+{
+    match row {
+        Row::Cmd0 => Deed::Takes,
+        _ => deed_at(deed, response(row)),
+    }
+}
+
+/// An error of an earlier write is still to be shown after a row, by whether the host heard the answer.
+fn error_after(response: Response, heard: bool, error: bool) -> bool
+    ensures { result ≡ error_after response heard error }
+{
+    match response {
+        Response::Absent | Response::CardStatus => false,
+        Response::NotAddressed => error,
+        _ => heard && error,
+    }
+}
+
+/// A card answers the row: an SD card of version 1 does not answer CMD8.
+fn is_answered(desc: &CardDesc, row: Row) -> bool
+    ensures { result ≡ is_answered desc.now row }
+{
+    match row {
+        Row::Cmd8Sd => desc.version == 2,
+        _ => true,
+    }
+}
+
+/// A card after its answer, which may have shown an error of an earlier write.
+fn answered(desc: &CardDesc, row: Row, heard: bool, u: CardState) -> CardState
+    ensures { result ≡ answered desc.now row heard u }
+{
+    let heard = heard && is_answered(desc, row);
+    CardState {
+        unshown_error: error_after(response(row), heard, u.unshown_error),
+        ..u
     }
 }
 
@@ -124,18 +145,23 @@ fn does(
     match deed {
         Deed::Loses => Heard::unheard(*t),
         Deed::TakesUnheard => Heard {
-            after: taken_by(desc, row, argument, choice, t),
+            after: answered(desc, row, false, taken_by(desc, row, argument, choice, t)),
             reply: None,
             erases: is_erase(row),
         },
-        Deed::Takes { error } => Heard {
-            after: taken_by(desc, row, argument, choice, t),
-            reply: reply_of(desc, row, t, choice.app, error, choice.ready),
+        Deed::Takes => Heard {
+            after: answered(desc, row, true, taken_by(desc, row, argument, choice, t)),
+            reply: reply_of(desc, row, t, choice.app, choice.error, choice.ready),
             erases: is_erase(row),
         },
+        Deed::StaysUnheard => Heard {
+            after: answered(desc, row, false, stays(desc.kind, row, choice, t)),
+            reply: None,
+            erases: false,
+        },
         Deed::Stays => Heard {
-            after: stays(t),
-            reply: reply_of(desc, row, t, false, true, choice.ready),
+            after: answered(desc, row, true, stays(desc.kind, row, choice, t)),
+            reply: reply_of(desc, row, t, false, doubt_of(choice.error), choice.ready),
             erases: false,
         },
     }
@@ -150,7 +176,7 @@ fn hear_at(desc: &CardDesc, behavior: Behavior, order: Order, argument: u32, t: 
         TakenAs::Forbidden | TakenAs::Ignored => Heard::unheard(*t),
         TakenAs::By(row) => {
             let choice = choice_of(desc, behavior, row, t.checked);
-            does(desc, row_deed(behavior, row), row, argument, choice, t)
+            does(desc, row_deed(behavior.deed, row), row, argument, choice, t)
         }
     }
 }
@@ -166,7 +192,13 @@ pub fn hear(
     ensures heard { result ≡ hear desc.now behavior order argument s.now }
     ensures index { IfSome result.reply HasIndex }
 {
-    hear_at(desc, behavior, order, argument, &settled_by(behavior, s))
+    hear_at(
+        desc,
+        behavior,
+        order,
+        argument,
+        &settled_by(behavior.settles, s),
+    )
 }
 
 /// What comes of a command: nothing, where the card has it not or does not accept it.

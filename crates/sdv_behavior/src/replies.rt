@@ -3,11 +3,12 @@
 ghost use Rattle.std.specs.Prelude.{◌≡◌, ◌<◌, ◌^◌, IfSome};
 ghost use Rattle.sdv_frames.specs.Frame.{HasIndex};
 ghost use Rattle.sdv_behavior.specs.Registers.{cid_of};
-ghost use Rattle.sdv_behavior.specs.Replies.{shows_app, shows_switch, reply_of};
+ghost use Rattle.sdv_behavior.specs.Replies.{shows_app, shows_switch, error_shown, reply_of};
 
+use crate::behavior::StatusError;
 use crate::card_desc::CardDesc;
 use crate::card_state::CardState;
-use crate::words::{address_word, conditions_word, status_word};
+use crate::words::{address_word, conditions_word, doubt_of, leaves_doubt, status_word};
 use sdv_card::state_table::row_index;
 use sdv_card::{Kind, Row};
 use sdv_frames::Reply;
@@ -48,13 +49,20 @@ fn shows_switch(row: Row) -> bool
     }
 }
 
+/// The error in a status: where one of an earlier write is pending, one that leaves a doubt.
+fn error_shown(error: StatusError, pending: bool) -> StatusError
+    ensures { result ≡ error_shown error pending }
+{
+    if pending { doubt_of(error) } else { error }
+}
+
 /// The answer of a card that took the row, or stayed. With `app` bit 5 is set where the row shows it.
 pub fn reply_of(
     desc: &CardDesc,
     row: Row,
     t: &CardState,
     app: bool,
-    error: bool,
+    error: StatusError,
     ready: bool,
 ) -> Option<Reply>
     ensures reply { result ≡ reply_of desc.now row t.now app error ready }
@@ -67,7 +75,7 @@ pub fn reply_of(
         Row::Cmd1 => Reply::R3(conditions_word(Kind::Emmc, desc.block_unit, ready)),
         Row::Acmd41 { .. } => Reply::R3(conditions_word(Kind::Sd, desc.block_unit, ready)),
         Row::Cmd2 | Row::Cmd10 => Reply::R2(cid_of(desc.kind)),
-        Row::Cmd3Sd => Reply::R6(address_word(desc.rca, t.state, error)),
+        Row::Cmd3Sd => Reply::R6(address_word(desc.rca, t.state, leaves_doubt(error))),
         Row::Cmd9 => Reply::R2(desc.csd),
         _ => Reply::R1 {
             index: row_index(row),
@@ -75,7 +83,7 @@ pub fn reply_of(
                 t.state,
                 shows_app(row) && app,
                 shows_switch(row) && t.mode.error,
-                error,
+                error_shown(error, t.unshown_error),
             ),
         },
     };

@@ -3,14 +3,14 @@
 ghost use Rattle.std.specs.Prelude.{◌≡◌};
 ghost use Rattle.sdv_card.specs.StateTable.{rows, targets};
 ghost use Rattle.sdv_card.specs.NextStates.{next_states};
-ghost use Rattle.sdv_behavior.specs.RowTaken.{state_next, rca_next, app_next, length_next, mode_next, preset_next, block_next, count_of, announced_next, checked_next, first_next, last_next, taken_by, stays};
+ghost use Rattle.sdv_behavior.specs.RowTaken.{state_next, rca_next, app_next, length_next, mode_next, preset_left, preset_next, erase_left, block_next, count_of, announced_next, checked_next, first_next, last_next, taken_by, stays};
 ghost use Rattle.sdv_card.specs.Taken.{block_of};
 
 use crate::card_desc::CardDesc;
 use crate::card_state::CardState;
 use crate::choice::Choice;
 use sdv_card::state_table::{Rows, erase_after, transfer_after};
-use sdv_card::{Kind, Mode, Row, Setting, State};
+use sdv_card::{EraseStage, Kind, Mode, Row, Setting, State};
 use sdv_emmc::EmmcTable;
 use sdv_sd::SdTable;
 
@@ -83,14 +83,24 @@ fn mode_next(row: Row, fails: bool, mode: Mode) -> Mode
     }
 }
 
+/// The preset count after a command that neither sets nor uses it: an e.MMC device keeps it or forgets it.
+fn preset_left(kind: Kind, keeps: bool, preset: u16) -> u16
+    ensures { result ≡ preset_left kind keeps preset }
+{
+    match kind {
+        Kind::Emmc if !keeps => 0,
+        _ => preset,
+    }
+}
+
 /// The preset count.
-fn preset_next(row: Row, preset: u16) -> u16
-    ensures { result ≡ preset_next row preset }
+fn preset_next(kind: Kind, row: Row, keeps: bool, preset: u16) -> u16
+    ensures { result ≡ preset_next kind row keeps preset }
 {
     match row {
         Row::Cmd0 | Row::Cmd18 { .. } | Row::Cmd25 { .. } => 0,
         Row::Cmd23 { count } => count,
-        _ => preset,
+        _ => preset_left(kind, keeps, preset),
     }
 }
 
@@ -183,23 +193,37 @@ pub fn taken_by(
         block_length: length_next(desc.block_length, row, t.block_length),
         erase: erase_after(row, t.erase),
         mode: mode_next(row, choice.switch_fails, t.mode),
-        preset: preset_next(row, t.preset),
+        preset: preset_next(desc.kind, row, choice.keeps_preset, t.preset),
         transfer: transfer_after(row, t.preset, t.transfer),
         next_block: block_next(row, desc.block_unit, argument, t.next_block),
         announced: announced_next(row, t.preset, t.announced),
         checked: checked_next(row, t.checked),
         erase_first: first_next(row, desc.block_unit, argument, t.erase_first),
         erase_last: last_next(row, desc.block_unit, argument, t.erase_last),
+        unshown_error: t.unshown_error,
+    }
+}
+
+/// The erase stage of a card that stays: it is kept, or ended, unless the index is 13.
+fn erase_left(row: Row, keeps: bool, erase: EraseStage) -> EraseStage
+    ensures { result ≡ erase_left row keeps erase }
+{
+    match row {
+        Row::Cmd13 | Row::Acmd13 => erase,
+        _ if keeps => erase,
+        _ => EraseStage::Outside,
     }
 }
 
 /// The card after a command that reached it and that it did not take.
-pub fn stays(t: &CardState) -> CardState
-    ensures { result ≡ stays t.now }
+pub fn stays(kind: Kind, row: Row, choice: Choice, t: &CardState) -> CardState
+    ensures { result ≡ stays kind row choice t.now }
 {
     CardState {
         app: false,
         mode: t.mode.calm(),
+        erase: erase_left(row, choice.keeps_erase, t.erase),
+        preset: preset_left(kind, choice.keeps_preset, t.preset),
         ..*t
     }
 }

@@ -26,6 +26,7 @@ impl CardState {
             checked: false,
             erase_first: 0,
             erase_last: 0,
+            unshown_error: false,
         }
     }
 }

@@ -1,8 +1,9 @@
 //! The words that a simulated card answers with.
 
-ghost use Rattle.std.specs.Prelude.{◌≡◌, ◌<◌, ◌^◌};
-ghost use Rattle.sdv_behavior.specs.Words.{ready_bit, bit_if, status_word, address_word, windows, conditions_word};
+ghost use Rattle.std.specs.Prelude.{◌≡◌, ◌<◌, ◌-◌, ◌^◌};
+ghost use Rattle.sdv_behavior.specs.Words.{ready_bit, bit_if, error_bit, leaves_doubt, doubt_of, status_word, address_word, windows, conditions_word};
 
+use crate::behavior::StatusError;
 use sdv_card::{Kind, State};
 
 /// Ready for data.
@@ -22,11 +23,46 @@ fn bit_if(set: bool, bit: u32) -> u32
     if set { bit } else { 0 }
 }
 
-/// The card status: the state, ready for data, and three bits.
-pub fn status_word(state: State, app: bool, switch: bool, error: bool) -> u32
+/// The bit of an error.
+fn error_bit(error: StatusError) -> u32
+    ensures word { result ≡ error_bit error }
+    ensures small { result < 2 ^ 32 - 2 ^ 16 }
+{
+    match error {
+        StatusError::Nothing => 0,
+        StatusError::General => 0x0008_0000,
+        StatusError::OutOfRange => 0x8000_0000,
+        StatusError::EraseSequence => 0x1000_0000,
+        StatusError::IllegalCommand => 0x0040_0000,
+    }
+}
+
+/// The error leaves a doubt whether the card took the command.
+pub fn leaves_doubt(error: StatusError) -> bool
+    ensures { result ≡ leaves_doubt error }
+{
+    match error {
+        StatusError::Nothing | StatusError::IllegalCommand => false,
+        _ => true,
+    }
+}
+
+/// The error of a card that shows one that leaves a doubt: a general one, where it has no other.
+pub fn doubt_of(error: StatusError) -> StatusError
+    ensures { result ≡ doubt_of error }
+{
+    if leaves_doubt(error) {
+        error
+    } else {
+        StatusError::General
+    }
+}
+
+/// The card status: the state, ready for data, two bits, and an error.
+pub fn status_word(state: State, app: bool, switch: bool, error: StatusError) -> u32
     ensures { result ≡ status_word state app switch error }
 {
-    bit_if(error, 0x80000)
+    error_bit(error)
         + 512 * u32::from(state.number())
         + ready_bit(state)
         + bit_if(switch, 0x80)

@@ -1,8 +1,12 @@
 -- HOW A SCHEDULE BY NAME IS READ: line by line, each from left to right, or the first fault.
-use Rattle.std.specs.Prelude.{ℕ, List, [], ◌∷◌, ◌++◌, length, take, drop, ◌+◌, ◌%◌, ◌==◌, ◌&&◌, ◌||◌, Bool, true, nat_lt, nat_le, codes, Option, Some, None, Result, Ok, Err, if◌then◌else◌}
+use Rattle.std.specs.Prelude.{ℕ, List, [], ◌∷◌, ◌++◌, length, take, drop, ◌+◌, ◌%◌, ◌==◌, ◌&&◌, ◌||◌, Bool, true, false, nat_lt, nat_le, codes, Option, Some, None, Result, Ok, Err, if◌then◌else◌}
+use Rattle.sdv_behavior.specs.declared.behavior.Behavior.{Behavior}
+use Rattle.sdv_behavior.specs.declared.mishap.Mishap.{Mishap}
+use Rattle.sdv_behavior.specs.Schedules.{mishap_name, mishap_short_name}
+use Rattle.sdv_behavior.specs.declared.mishap.TheConstants.{MISHAPS}
 use Rattle.sdv_text.specs.Fronts.{Read, after, is_digit, run, number_after}
 use Rattle.sdv_named_schedules.specs.declared.fault.ScheduleFault.{ScheduleFault}
-use Rattle.sdv_named_schedules.specs.declared.fault.ScheduleFault.TheVariants.{Event, Mishap, Many}
+use Rattle.sdv_named_schedules.specs.declared.fault.ScheduleFault.TheVariants.{Event, Mishap as NoMishap, Many}
 use Rattle.sdv_named_schedules.specs.declared.naming.EventName.{EventName}
 use Rattle.sdv_named_schedules.specs.declared.naming.EventName.TheVariants.{Line, Command, Application, Number}
 use Rattle.sdv_named_schedules.specs.declared.naming.NamedMishap.{NamedMishap}
@@ -90,37 +94,23 @@ read_event text =
     or_else (after (codes "ACMD") text) (λ rest. and_then (read_index rest) (λ n. Some (Application n.0, n.1))) (
     or_else (after (codes "event ") text) (λ rest. and_then (read_number rest) (λ n. Some (Number n.0, n.1))) None)))
 
--- MISHAPS: the words of a sweep's columns, two of them with a short form, each for its value
+-- MISHAPS: by the names of the table, each for the number of its row
 
-unfoldable pub read_loss : List ℕ → Read ℕ
-read_loss text =
-    or_else (after (codes "command lost") text) (λ rest. Some (1, rest)) (
-    or_else (after (codes "lost") text) (λ rest. Some (1, rest)) (
-    or_else (after (codes "answer lost") text) (λ rest. Some (2, rest)) (
-    or_else (after (codes "CRC status lost") text) (λ rest. Some (8, rest)) (
-    or_else (after (codes "not ready") text) (λ rest. Some (3, rest)) None))))
+-- a name, and nothing follows but blanks and a comment
+abbrev pub is_said : (name text : List ℕ) → Bool
+is_said name text = or_else (after name text) is_over false
 
-unfoldable pub read_failure : List ℕ → Read ℕ
-read_failure text =
-    or_else (after (codes "error shown") text) (λ rest. Some (4, rest)) (
-    or_else (after (codes "refused") text) (λ rest. Some (5, rest)) (
-    or_else (after (codes "phase cut") text) (λ rest. Some (6, rest)) (
-    or_else (after (codes "cut") text) (λ rest. Some (6, rest)) (
-    or_else (after (codes "switch fails") text) (λ rest. Some (7, rest)) (
-    or_else (after (codes "no APP_CMD") text) (λ rest. Some (9, rest)) None)))))
+abbrev pub is_named : Mishap → List ℕ → Bool
+is_named mishap text = is_said (mishap_name mishap) text || is_said (mishap_short_name mishap) text
 
-unfoldable pub read_busy : List ℕ → Read ℕ
-read_busy text =
-    or_else (after (codes "lost while busy") text) (λ rest. Some (10, rest)) (
-    or_else (after (codes "error while busy") text) (λ rest. Some (11, rest)) None)
+-- the number of the first row that the text names, where the first one has this number
+abbrev pub value_named : (number : ℕ) → List (Mishap × Behavior) → List ℕ → Option ℕ
+value_named number [] text = None
+value_named number (row ∷ rows) text =
+    if is_named row.0 text then Some number else value_named (number + 1) rows text
 
-abbrev pub first_of : Read ℕ → Read ℕ → Read ℕ
-first_of None other = other
-first_of (Some x) other = Some x
-
--- `lost while busy` begins with the short form of another
-unfoldable pub read_mishap : List ℕ → Read ℕ
-read_mishap text = first_of (read_busy text) (first_of (read_loss text) (read_failure text))
+abbrev pub read_mishap : List ℕ → Option ℕ
+read_mishap text = value_named 1 MISHAPS text
 
 -- A LINE, which begins with no blank
 
@@ -129,9 +119,8 @@ read_line number text =
     or_fault (Event number) (read_ordinal text) >>= λ ordinal.
     or_fault (Event number) (read_event ordinal.1) >>= λ event.
     or_fault (Event number) (after (codes ":") event.1) >>= λ rest.
-    or_fault (Mishap number) (read_mishap (skipped rest)) >>= λ mishap.
-    if is_over mishap.1
-    then Ok (record { line = number; ordinal = ordinal.0; event = event.0; code = mishap.0 }) else Err (Mishap number)
+    or_fault (NoMishap number) (read_mishap (skipped rest)) >>= λ code.
+    Ok (record { line = number; ordinal = ordinal.0; event = event.0; code = code })
 
 -- A TEXT
 

@@ -1,6 +1,8 @@
 -- HOW A SCHEDULE IS WRITTEN: as digits, where each value has one; or else by name, a line for each mishap.
-use Rattle.std.specs.Prelude.{ℕ, suc, List, [], ◌∷◌, ◌++◌, ◌+◌, ◌==◌, ◌||◌, Bool, map, nat_le, codes, decimal, if◌then◌else◌}
+use Rattle.std.specs.Prelude.{ℕ, suc, List, [], ◌∷◌, ◌++◌, ◌+◌, ◌==◌, ◌||◌, Bool, map, nat_le, codes, decimal, Option, Some, None, if◌then◌else◌}
 use Rattle.std.specs.List.{list_all}
+use Rattle.sdv_behavior.specs.declared.mishap.Mishap.{Mishap}
+use Rattle.sdv_behavior.specs.Schedules.{mishap_name, mishap_of_code}
 
 -- DIGITS: those from 0 to 7 have a value, and 9 has none
 
@@ -12,19 +14,13 @@ digit_of value = if nat_le value 7 then 48 + value else 57
 
 -- NAMES: the number of the event, and the words of the mishap
 
+-- none where no mishap has the value
+abbrev pub name_in : Option Mishap → List ℕ
+name_in None = []
+name_in (Some mishap) = mishap_name mishap
+
 abbrev pub words_of : (value : ℕ) → List ℕ
-words_of value =
-    if value == 1 then codes "command lost"
-    else if value == 2 then codes "answer lost"
-    else if value == 3 then codes "not ready"
-    else if value == 4 then codes "error shown"
-    else if value == 5 then codes "refused"
-    else if value == 6 then codes "phase cut"
-    else if value == 7 then codes "switch fails"
-    else if value == 8 then codes "CRC status lost"
-    else if value == 9 then codes "no APP_CMD"
-    else if value == 10 then codes "lost while busy"
-    else codes "error while busy"
+words_of value = name_in (mishap_of_code value)
 
 abbrev pub event_line : (number value : ℕ) → List ℕ
 event_line number value =

@@ -1,11 +1,12 @@
 //! Reading a line of a schedule by name, from left to right.
 
-ghost use Rattle.std.specs.Prelude.{◌≡◌, option_map};
+ghost use Rattle.std.specs.Prelude.{◌≡◌, ◌<◌, length, option_map};
 ghost use Rattle.sdv_text.specs.Fronts.{run};
-ghost use Rattle.sdv_named_schedules.specs.Reading.{is_blank, is_over, read_busy, read_event, read_failure, read_index, read_line, read_loss, read_mishap, read_number, read_ordinal, skipped, suffix_of};
+ghost use Rattle.sdv_named_schedules.specs.Reading.{is_blank, is_named, is_over, is_said, read_event, read_index, read_line, read_mishap, read_number, read_ordinal, skipped, suffix_of, value_named};
 
 use crate::fault::ScheduleFault;
 use crate::naming::{EventName, NamedMishap};
+use sdv_behavior::{Behavior, MISHAPS, Mishap};
 use sdv_text::{after, capped_value, digits_len};
 
 /// How many blanks a text begins with.
@@ -115,81 +116,41 @@ fn event(text: &[u8]) -> Option<(EventName, &[u8])>
     Some((EventName::Number(number), rest))
 }
 
-/// A mishap in which something is lost or late, and what follows.
-#[tactic(auto, unfolding(crate::specs::Reading::read_loss))]
-fn loss(text: &[u8]) -> Option<(u8, &[u8])>
-    ensures { option_map (λ x. (x.0, x.1.now)) result ≡ read_loss text.now }
+/// A text is a name, and nothing follows but blanks and a comment.
+fn is_said(name: &str, text: &[u8]) -> bool
+    ensures { result ≡ is_said name.now text.now }
 {
-    if let Some(rest) = after(text, b"command lost") {
-        return Some((1, rest));
-    }
-    if let Some(rest) = after(text, b"lost") {
-        return Some((1, rest));
-    }
-    if let Some(rest) = after(text, b"answer lost") {
-        return Some((2, rest));
-    }
-    if let Some(rest) = after(text, b"CRC status lost") {
-        return Some((8, rest));
-    }
-    match after(text, b"not ready") {
-        Some(rest) => Some((3, rest)),
-        None => None,
+    match after(text, name.as_bytes()) {
+        Some(rest) => is_over(rest),
+        None => false,
     }
 }
 
-/// A mishap in which the card shows an error or fails, and what follows.
-#[tactic(auto, unfolding(crate::specs::Reading::read_failure))]
-fn failure(text: &[u8]) -> Option<(u8, &[u8])>
-    ensures { option_map (λ x. (x.0, x.1.now)) result ≡ read_failure text.now }
+/// A text names a mishap.
+fn is_named(mishap: Mishap, text: &[u8]) -> bool
+    ensures { result ≡ is_named mishap text.now }
 {
-    if let Some(rest) = after(text, b"error shown") {
-        return Some((4, rest));
-    }
-    if let Some(rest) = after(text, b"refused") {
-        return Some((5, rest));
-    }
-    if let Some(rest) = after(text, b"phase cut") {
-        return Some((6, rest));
-    }
-    if let Some(rest) = after(text, b"cut") {
-        return Some((6, rest));
-    }
-    if let Some(rest) = after(text, b"switch fails") {
-        return Some((7, rest));
-    }
-    match after(text, b"no APP_CMD") {
-        Some(rest) => Some((9, rest)),
-        None => None,
-    }
+    is_said(mishap.name(), text) || is_said(mishap.short_name(), text)
 }
 
-/// A mishap that comes while the card is still busy, and what follows.
-#[tactic(auto, unfolding(crate::specs::Reading::read_busy))]
-fn busy(text: &[u8]) -> Option<(u8, &[u8])>
-    ensures { option_map (λ x. (x.0, x.1.now)) result ≡ read_busy text.now }
+/// The number of the first row whose mishap a text names, from 1.
+fn value_named(rows: &[(Mishap, Behavior)], text: &[u8]) -> Option<u8>
+    requires { length rows.now < 256 }
+    ensures { result ≡ value_named 1 rows.now text.now }
 {
-    if let Some(rest) = after(text, b"lost while busy") {
-        return Some((10, rest));
+    for place in 0..rows.len() {
+        if is_named(rows[place].0, text) {
+            return Some(place as u8 + 1);
+        }
     }
-    match after(text, b"error while busy") {
-        Some(rest) => Some((11, rest)),
-        None => None,
-    }
+    None
 }
 
-/// The value of a mishap, and what follows.
-#[tactic(auto, unfolding(crate::specs::Reading::read_mishap))]
-fn mishap(text: &[u8]) -> Option<(u8, &[u8])>
-    ensures { option_map (λ x. (x.0, x.1.now)) result ≡ read_mishap text.now }
+/// The value of the first mishap that a text names.
+fn mishap(text: &[u8]) -> Option<u8>
+    ensures { result ≡ read_mishap text.now }
 {
-    if let Some(read) = busy(text) {
-        return Some(read);
-    }
-    match loss(text) {
-        Some(read) => Some(read),
-        None => failure(text),
-    }
+    value_named(&MISHAPS, text)
 }
 
 /// Reads the line with a number, which begins with no blank.
@@ -210,12 +171,9 @@ pub fn read_line(number: u64, text: &[u8]) -> Result<NamedMishap, ScheduleFault>
     let Some(rest) = after(rest, b":") else {
         return Err(ScheduleFault::Event(number));
     };
-    let Some((code, rest)) = mishap(skipped(rest)) else {
+    let Some(code) = mishap(skipped(rest)) else {
         return Err(ScheduleFault::Mishap(number));
     };
-    if !is_over(rest) {
-        return Err(ScheduleFault::Mishap(number));
-    }
     Ok(NamedMishap {
         line: number,
         ordinal,

@@ -3,6 +3,7 @@
 ghost use Rattle.std.specs.Prelude.{◌≡◌, ◌++◌, IfOk, OnOk, map};
 ghost use Rattle.sdv_named_schedules.specs.Writing.{digit_of, event_line, event_lines, fits_file, has_digits, mishaps_in, schedule_text, words_of};
 
+use sdv_behavior::Mishap;
 use sdv_telling::{Text, put, put_numbered};
 use std::alloc::{AllocError, Global};
 
@@ -37,22 +38,13 @@ fn digits_of(alloc: Global, values: &[u8]) -> Result<Text, AllocError>
     Ok(digits)
 }
 
-/// The words of a mishap.
+/// The name of the mishap with a value; none where no mishap has it.
 fn words_of(value: u8) -> &'static str
     ensures { result.now ≡ words_of value }
 {
-    match value {
-        1 => "command lost",
-        2 => "answer lost",
-        3 => "not ready",
-        4 => "error shown",
-        5 => "refused",
-        6 => "phase cut",
-        7 => "switch fails",
-        8 => "CRC status lost",
-        9 => "no APP_CMD",
-        10 => "lost while busy",
-        _ => "error while busy",
+    match Mishap::of_code(value) {
+        Some(mishap) => mishap.name(),
+        None => "",
     }
 }
 

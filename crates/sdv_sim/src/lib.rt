@@ -5,7 +5,7 @@
 //!
 //! - `Sim::new` is Ok only with the described card before its first command. If the image shows its blocks, the card
 //!   is of the profile and its contents are those blocks. Each fault comes only where its cause holds: a schedule
-//!   value above 7 (above 11 for `Sim::with_named_values`), an image of another size, an image that was not read,
+//!   value above 7 (above those of all mishaps for `Sim::with_named_values`), an image of another size, an image that was not read,
 //!   memory. `into_image` returns the image.
 //! - If the image shows its blocks, the `Sim` keeps the tables, and a `Controller` over it is a port that keeps them.
 //!   Calls after `new` take no memory.

@@ -20,7 +20,7 @@ fn are_digits(codes: &[u8]) -> bool
     codes.iter().all(|code| *code <= 7)
 }
 
-/// Each value is one of a schedule, 0 to 11.
+/// Each value is one of a schedule: 0, or that of a mishap.
 fn are_codes(codes: &[u8]) -> bool
     ensures { result ≡ are_codes codes.now }
 {
@@ -68,11 +68,11 @@ impl<I: Image + Drop> Sim<I> {
         made(alloc, desc, image, schedule)
     }
 
-    /// A card as [`Sim::new`] makes it, with the values of a schedule that have names alone too: 0 to 11.
+    /// A card as [`Sim::new`] makes it, with the values of a schedule that have names alone too.
     ///
     /// # Errors
     ///
-    /// [`SimFault::Description`] where a value of the schedule is above 11, and else those of [`Sim::new`].
+    /// [`SimFault::Description`] where a value of the schedule is that of no mishap, and else those of [`Sim::new`].
     pub fn with_named_values(
         alloc: Global,
         desc: CardDesc,

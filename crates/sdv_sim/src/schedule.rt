@@ -3,7 +3,7 @@
 ghost use Rattle.std.specs.Prelude.{◌≡◌, Some, true, IfOk, map};
 ghost use Rattle.sdv_behavior.specs.Schedules.{are_codes, behavior_of_code, first_behavior, later_behaviors};
 
-use sdv_behavior::Behavior;
+use sdv_behavior::{Behavior, PROMPT};
 use std::alloc::{AllocError, Global};
 use std::marker::Model;
 
@@ -49,7 +49,7 @@ impl Schedule {
                 self.next += 1;
                 behavior
             }
-            None => Behavior::Prompt,
+            None => PROMPT,
         }
     }
 }

@@ -10,8 +10,8 @@ ghost use Rattle.sdv_sim.specs.SimOf.{state_of};
 use crate::sim::Sim;
 use crate::wire_end::give;
 use sdv_behavior::{
-    copy_register, cuts, end_seen, erased_places, heard_of, length_fits, next_place, on_lines,
-    phase_over, wait_end, waited,
+    copy_register, cuts, end_seen, erased_places, fails_later, heard_of, length_fits, next_place,
+    on_lines, phase_over, wait_end, waited, with_error,
 };
 use sdv_card::state_table::{give_legal, recv_legal, recv_reg_legal, wait_legal};
 use sdv_card::{DataEnd, WaitEnd};
@@ -65,12 +65,12 @@ impl<I: Image> Wire for Sim<I> {
             return DataEnd::Cut;
         }
         let place = next_place(&self.desc, &self.card);
-        let end = if cuts(behavior) || read_blocks(&mut self.image, place, blocks).is_err() {
+        let end = if cuts(behavior.phase) || read_blocks(&mut self.image, place, blocks).is_err() {
             DataEnd::Cut
         } else {
             DataEnd::Ok
         };
-        self.card = phase_over(end, &self.card);
+        self.card = phase_over(behavior.moves_on, end, &self.card);
         end
     }
 
@@ -82,13 +82,13 @@ impl<I: Image> Wire for Sim<I> {
         {
             return DataEnd::Cut;
         }
-        let end = if cuts(behavior) {
+        let end = if cuts(behavior.phase) {
             DataEnd::Cut
         } else {
             copy_register(&self.desc, self.card.transfer, self.card.mode, bytes);
             DataEnd::Ok
         };
-        self.card = phase_over(end, &self.card);
+        self.card = phase_over(behavior.moves_on, end, &self.card);
         end
     }
 
@@ -100,23 +100,27 @@ impl<I: Image> Wire for Sim<I> {
         {
             return DataEnd::Cut;
         }
+        if fails_later(behavior.phase) {
+            self.card = with_error(phase_over(behavior.moves_on, DataEnd::Ok, &self.card));
+            return DataEnd::Ok;
+        }
         let place = next_place(&self.desc, &self.card);
-        if cuts(behavior) || write_blocks(&mut self.image, place, blocks).is_err() {
-            self.card = phase_over(DataEnd::Cut, &self.card);
+        if cuts(behavior.phase) || write_blocks(&mut self.image, place, blocks).is_err() {
+            self.card = phase_over(behavior.moves_on, DataEnd::Cut, &self.card);
             return DataEnd::Cut;
         }
-        self.card = phase_over(DataEnd::Ok, &self.card);
-        end_seen(behavior)
+        self.card = phase_over(behavior.moves_on, DataEnd::Ok, &self.card);
+        end_seen(behavior.phase)
     }
 
     fn wait(&mut self) -> WaitEnd {
         let behavior = self.schedule.advance();
         let end = if wait_legal(self.card.state) {
-            wait_end(behavior)
+            wait_end(behavior.ready)
         } else {
             WaitEnd::Ok
         };
-        self.card = waited(end, &self.card);
+        self.card = waited(behavior.moves_on, end, &self.card);
         end
     }
 }
