@@ -1,5 +1,4 @@
 pub mod ListLaws
-pub mod ToldLaws
 pub mod FoundLaws
 pub mod ComesLaws
 pub mod MeaningLaws

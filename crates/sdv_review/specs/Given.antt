@@ -1,11 +1,9 @@
 -- THE MOST BLOCKS that a run gives, by the statements alone. A command that begins a write counts the blocks that it
 -- announces, since a write phase needs a command of its own. Of the ways of a statement the one with the most counts, and
 -- a loop counts for each of its turns.
-use Rattle.std.specs.Prelude.{ℕ, zero, suc, ◌+◌, ◌*◌, max, [], ◌++◌, Bool, Option, Some, None, codes, decimal, if◌then◌else◌}
+use Rattle.std.specs.Prelude.{ℕ, ◌+◌, ◌*◌, max, if◌then◌else◌}
 use Rattle.sdv_card.specs.declared.event.Ask.{Ask}
 use Rattle.sdv_graph.specs.Tree.{Statements, nothing, first, Ways, otherwise, way, Statement, send, phase, setting, choice, set, clear, bus_lines, turns, break, done, fault}
-use Rattle.sdv_telling.specs.Statements.{Text}
-use Rattle.sdv_review.specs.Lines.{finding_end}
 use Rattle.sdv_review.specs.Statuses.{is_write}
 
 abbrev pub announced_by : Ask → ℕ
@@ -32,20 +30,3 @@ abbrev mutual
   most_of_statement break = 0
   most_of_statement done = 0
   most_of_statement (fault name) = 0
-
--- IN WORDS, where a script gives any; a number above 64 bits is not told
-
-abbrev pub block_word : (count : ℕ) → Text
-block_word (suc zero) = codes " block"
-block_word count = codes " blocks"
-
-abbrev pub count_front : (json : Bool) → Text
-count_front json = if json then codes "{\"kind\":\"blocks\",\"text\":\"gives at most " else codes "gives at most "
-
-abbrev pub count_text : (json : Bool) → (count : ℕ) → Text
-count_text json count = count_front json ++ (decimal count ++ (block_word count ++ finding_end json))
-
-abbrev pub given_text : (json : Bool) → Option ℕ → Text
-given_text json None = []
-given_text json (Some zero) = []
-given_text json (Some (suc n)) = count_text json (suc n)

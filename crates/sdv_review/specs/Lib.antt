@@ -2,8 +2,7 @@ pub mod Findings
 pub mod Names
 pub mod Comes
 pub mod Meaning
-pub mod Lines
-pub mod Reviewed
+pub mod Kinds
 pub mod Moves
 pub mod Asked
 pub mod Statuses

@@ -1,15 +1,12 @@
 //! The most blocks that a run gives.
 
-ghost use Rattle.std.specs.Prelude.{◌≡◌, ◌++◌, ◌<◌, ◌^◌, OnOk, SomeIff, max};
+ghost use Rattle.std.specs.Prelude.{◌≡◌, ◌<◌, ◌^◌, SomeIff, max};
 ghost use Rattle.sdv_graph.specs.Tree.{statements_of, ways_of, statement_of};
-ghost use Rattle.sdv_review.specs.Given.{announced_by, block_word, count_front, count_text, given_text, most_of_statement, most_of_statements, most_of_ways};
+ghost use Rattle.sdv_review.specs.Given.{announced_by, most_of_statement, most_of_statements, most_of_ways};
 
 use crate::status::is_write;
-use crate::text::finding_end;
 use sdv_card::Ask;
 use sdv_graph::{Block, Cases, Stmt};
-use sdv_telling::{Text, put, put_numbered};
-use std::alloc::AllocError;
 use std::cmp::max;
 
 /// The blocks of a write that the command announces.
@@ -81,34 +78,5 @@ fn most_of_stmt(stmt: &Stmt<'_>) -> Option<u64>
             body.checked_add(most_of_block(b)?)
         }
         _ => Some(0),
-    }
-}
-
-fn block_word(count: u64) -> &'static str
-    ensures { result.now ≡ block_word count }
-{
-    if count == 1 { " block" } else { " blocks" }
-}
-
-fn count_front(json: bool) -> &'static str
-    ensures { result.now ≡ count_front json }
-{
-    if json {
-        "{\"kind\":\"blocks\",\"text\":\"gives at most "
-    } else {
-        "gives at most "
-    }
-}
-
-/// Adds the most blocks that a run gives, where it gives any.
-pub fn put_given(text: &mut Text, given: Option<u64>, json: bool) -> Result<(), AllocError>
-    ensures { OnOk result (text.new.items ≡ text.old.items ++ given_text json given) }
-{
-    match given {
-        None | Some(0) => Ok(()),
-        Some(count) => {
-            put_numbered(text, count_front(json), count, block_word(count))?;
-            put(text, finding_end(json))
-        }
     }
 }

@@ -1,13 +1,13 @@
 //! What a certificate leaves open: a review of an accepted script.
 //!
-//! Begin at `review`, and at `specs/Findings.antt` and `specs/Writes.antt`, which say what is found.
+//! Begin at `find` and `find_writes`, and at `specs/Findings.antt` and `specs/Writes.antt`, which say what is found.
 //! `specs/Meaning.antt` and `specs/CertainData.antt` say what findings, and none, mean for every run beside any card
 //! of the profile; `specs/Comes.antt` when a run comes to a point.
 //!
 //! `specs/Statuses.antt` says what each statement makes of the status of writes and erases, `specs/Carried.antt` and
 //! `specs/Asked.antt` when statuses, and the partitions that may have been asked for last, go along each edge, and
 //! `specs/Weights.antt` why that comes to an end. `specs/Confirmed.antt` says when an answer confirms a write of a
-//! card. `specs/Given.antt` has the blocks of the last line. `proofs/KeptLaws.antt` says what a status means for a
+//! card. `specs/Given.antt` has the most blocks that a run gives. `proofs/KeptLaws.antt` says what a status means for a
 //! run, and `proofs/DataLaws.antt` follows it along a path.
 //!
 //! - `find` returns exactly the findings of `specs/Findings.antt`. Where one says that no run comes to a statement,
@@ -15,34 +15,31 @@
 //!   address has no finding of partitions, it meets in every run the partition that is told (`PartitionsAreTold`).
 //! - `find_writes`: where nothing is found of partitions, writes and erases, the data is there (`CertainData`;
 //!   `docs/PROVED.md`).
-//! - A review may find more than there is: statuses are joined where paths meet, and a set with more than eight holds
-//!   only that nothing is known. The words of a finding are tested; JSON is exact.
+//! - There may be less than is found: statuses are joined where paths meet, and a set with more than eight holds only
+//!   that nothing is known. The words of a finding are tested.
 #![tactic(auto)]
 
 mod asked;
 mod conditions;
-mod fault;
 mod finding;
 mod finds;
 mod given;
+mod kinds;
 pub mod laws;
 mod matters;
 mod names;
 mod partitions;
-mod reviewing;
 mod spreading;
 mod status;
 mod table;
-mod text;
 mod visiting;
 mod words;
 mod writes;
 
-pub use fault::ReviewFault;
 pub use finding::{Finding, Matter, Name, Reach};
 pub use finds::find;
-pub use reviewing::{Report, review};
+pub use given::most_of_block;
+pub use kinds::kind_word;
 pub use status::{Erase, ErasePart, Status};
-pub use text::{kind_word, line_at};
 pub use words::matter_words;
 pub use writes::find_writes;

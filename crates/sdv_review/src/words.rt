@@ -1,8 +1,8 @@
 //! Findings in words.
 
 use crate::finding::{Matter, Name, Reach};
+use crate::kinds::line_at;
 use crate::status::{Erase, Status};
-use crate::text::line_at;
 use sdv_graph::Graph;
 use sdv_telling::{Text, put, put_name, put_numbered, put_statement};
 use std::alloc::{AllocError, Global};
