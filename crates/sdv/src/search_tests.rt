@@ -1,4 +1,4 @@
-//! Searches that break off, and paths of the state tables that are too short or too long. `sdv refute` shows the others.
+//! Searches that break off, and paths of the state tables that are too short or too long. `sdv verify` shows the others.
 use sdv_broken_paths::{Path, Turn, break_of};
 use sdv_card::START_SHAPES;
 use sdv_paths::Choice;
@@ -24,20 +24,19 @@ fault stop
 fn search(rt: &impl Abort, alloc: Global, script: &str, budget: u64) -> Found {
     let script = parse(alloc, script).expect(rt, "a script");
     let graph = script.graph(alloc).expect(rt, "a graph");
-    refute(alloc, &script, &graph, budget).expect(rt, "a search")
+    refute(alloc, &script, &graph, &[], budget).expect(rt, "a search")
 }
 
 /// Without a budget no run is tried; one of one event allows one run.
 #[test]
 fn a_search_ends_with_its_budget(rt: HostRuntime) {
-    for (script, budget, runs) in [(EARLY, 0, 0), (UNCHECKED, 1, 1)] {
+    for (script, budget) in [(EARLY, 0), (UNCHECKED, 1)] {
         let found = search(&rt, rt.alloc(), script, budget);
-        assert!(rt; found.refutation.is_none() && found.runs == runs);
-        assert!(rt; !found.complete && !found.unbreakable);
+        assert!(rt; found.refutations.is_empty() && !found.unbreakable);
     }
-    let found = search(&rt, rt.alloc(), EARLY, 1);
-    let run = found.refutation.expect(&rt, "a run");
-    assert!(rt; found.runs == 1 && run.schedule.is_empty());
+    let mut found = search(&rt, rt.alloc(), EARLY, 1).refutations;
+    let run = found.pop().expect(&rt, "a run");
+    assert!(rt; found.is_empty() && run.schedule.is_empty());
     let trace = b"CMD0 00000000 -\nwrong CMD2 00000000\n".as_slice();
     assert!(rt; run.trace.as_slice() == trace);
 }

@@ -1,3 +1,2 @@
 pub mod RefutedLaws
 pub mod SweptLaws
-pub mod TableLaws

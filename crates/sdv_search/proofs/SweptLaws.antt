@@ -1,7 +1,8 @@
 -- Why no run of a sweep was made, and the blocks of an image in memory.
-use Rattle.std.proofs.Common.{arith, ◌≡◌, ◌/◌, ◌+◌, ◌++◌, ◌∷◌, Bool, inl, inr, ap, subst, ℕ, suc, List, [], length, Some, Result, Ok, Err, IfErr, IsErrAnd}
-use Rattle.std.proofs.lemmas.List.{length_push}
-use Rattle.std.proofs.lemmas.List.Elements.{All-push}
+use Rattle.std.proofs.Common.{arith, refl, sym, true, false, ◌∙◌, ◌≡◌, ◌/◌, ◌+◌, ◌++◌, ◌∷◌, Bool, inl, inr, ap, subst, ℕ, suc, List, [], length, Some, Result, Ok, Err, IfErr, IsErrAnd}
+use Rattle.std.specs.Prelude.{filter, map}
+use Rattle.std.proofs.lemmas.List.{append-nil, length_push, map-append}
+use Rattle.std.proofs.lemmas.List.Elements.{All-push, filter-append}
 use Rattle.sdv_card.specs.Card.{Block}
 use Rattle.sdv_check.specs.Verified.{IsGraphOfText}
 use Rattle.sdv_behavior.specs.declared.card_desc.CardDesc.{CardDesc}
@@ -19,6 +20,8 @@ use Rattle.sdv_refute.proofs.SimShown.{refuses_text}
 use Rattle.sdv_behavior.specs.Schedules.{are_codes}
 use Rattle.sdv_sim.specs.Made.{IsRefused, IsUnread}
 use Rattle.sdv_search.specs.Swept.{AreNumbered, AreRows, IsRow, NoEnd, NotSwept, blocks_of}
+use Rattle.sdv_search.specs.Table.{codes_below}
+use Rattle.sdv_search.specs.declared.sweeping.Cell.{Cell}
 use Rattle.sdv_search.specs.declared.sweeping.Row.{Row}
 
 pub image_shown : (image : MemImage) (bytes : List ℕ) → bytes_of image ≡ bytes → shown_of image ≡ blocks_of bytes
@@ -89,3 +92,24 @@ rows_push g desc image input events rows row so is at =
       count = omega (arith, length_push rows row, count);
       each = All-push (IsRow g desc image input) rows row so.each is;
     }
+
+-- THE RUNS of an event so far, and one more, or none
+
+only_true : (p : ℕ → Bool) (n : ℕ) → p n ≡ true → filter p (n ∷ []) ≡ n ∷ []
+only_true p n has = rw has refl
+
+only_false : (p : ℕ → Bool) (n : ℕ) → p n ≡ false → filter p (n ∷ []) ≡ []
+only_false p n has = rw has refl
+
+pub codes_more : (p : ℕ → Bool) (n : ℕ) (cells : List Cell) (cell : Cell) → map (λ (c : Cell). c.code) cells ≡ filter p (codes_below n)
+    → cell.code ≡ n → p n ≡ true → map (λ (c : Cell). c.code) (cells ++ cell ∷ []) ≡ filter p (codes_below (suc n))
+codes_more p n cells cell so same has =
+    map-append (λ (c : Cell). c.code) cells (cell ∷ [])
+    ∙ ap (λ (xs : List ℕ). xs ++ cell.code ∷ []) so
+    ∙ ap (λ (m : ℕ). filter p (codes_below n) ++ m ∷ []) same
+    ∙ sym (filter-append p (codes_below n) (n ∷ []) ∙ ap (λ (xs : List ℕ). filter p (codes_below n) ++ xs) (only_true p n has))
+
+pub codes_same : (p : ℕ → Bool) (n : ℕ) (codes : List ℕ) → codes ≡ filter p (codes_below n) → p n ≡ false
+    → codes ≡ filter p (codes_below (suc n))
+codes_same p n codes so has =
+    so ∙ sym (filter-append p (codes_below n) (n ∷ []) ∙ ap (λ (xs : List ℕ). filter p (codes_below n) ++ xs) (only_false p n has) ∙ append-nil (filter p (codes_below n)))

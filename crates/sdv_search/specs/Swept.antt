@@ -1,5 +1,5 @@
 -- Every run with one mishap.
-use Rattle.std.specs.Prelude.{◌≡◌, ◌≢◌, ◌==◌, ◌-◌, ◌/◌, ◌%◌, ◌⊎◌, ℕ, suc, List, [], ◌∷◌, ◌++◌, All, Option, Some, Result, Ok, Err, if◌then◌else◌, length, replicate, false}
+use Rattle.std.specs.Prelude.{◌≡◌, ◌≢◌, ◌==◌, ◌-◌, ◌/◌, ◌%◌, ◌⊎◌, ℕ, suc, List, [], ◌∷◌, ◌++◌, All, Option, Some, Result, Ok, Err, if◌then◌else◌, length, map, replicate, false}
 use Rattle.std.specs.List.{slice_get}
 use Rattle.sdv_card.specs.Card.{Block}
 use Rattle.sdv_image.specs.MemBlocks.{blocks_in}
@@ -16,6 +16,8 @@ use Rattle.sdv_refute.specs.declared.wrong.Watched.TheVariants.{Ended, Stopped}
 use Rattle.sdv_refute.specs.declared.simulated.TryFault.{TryFault}
 use Rattle.sdv_refute.specs.declared.simulated.TryFault.TheVariants.{Card, Memory}
 use Rattle.sdv_refute.specs.Tries.{NotTried, Tries, TryRefuses}
+use Rattle.sdv_search.specs.Table.{codes_at}
+use Rattle.sdv_search.specs.declared.sweeping.Cell.{Cell}
 use Rattle.sdv_search.specs.declared.sweeping.Row.{Row}
 use Rattle.sdv_search.specs.declared.sweeping.RunEnd.{RunEnd}
 use Rattle.sdv_search.specs.declared.sweeping.RunEnd.TheVariants as ends
@@ -56,19 +58,15 @@ HasEnd g desc image input codes end =
 abbrev pub mishap_at : (event code : ℕ) → List ℕ
 mishap_at event code = replicate event 0 ++ code ∷ []
 
+-- a run with the mishap at an event comes to the end
+abbrev pub IsCell : Graph → CardDesc → (image : List ℕ) → (input : List Block) → (event : ℕ) → Cell → Type 0
+IsCell g desc image input event cell = HasEnd g desc image input (mishap_at event cell.code) cell.end
+
+-- a run for each mishap that the event can have
 pub record IsRow (g : Graph) (desc : CardDesc) (image : List ℕ) (input : List Block) (row : Row) : Type 0 where
   pub line : slice_get g.lines row.point ≡ Some row.line
-  pub command_lost : HasEnd g desc image input (mishap_at row.event 1) row.command_lost
-  pub answer_lost : HasEnd g desc image input (mishap_at row.event 2) row.answer_lost
-  pub slow : HasEnd g desc image input (mishap_at row.event 3) row.slow
-  pub error : HasEnd g desc image input (mishap_at row.event 4) row.error
-  pub refused : HasEnd g desc image input (mishap_at row.event 5) row.refused
-  pub cut : HasEnd g desc image input (mishap_at row.event 6) row.cut
-  pub switch_fails : HasEnd g desc image input (mishap_at row.event 7) row.switch_fails
-  pub crc_status_lost : HasEnd g desc image input (mishap_at row.event 8) row.crc_status_lost
-  pub no_app_cmd : HasEnd g desc image input (mishap_at row.event 9) row.no_app_cmd
-  pub lost_while_busy : HasEnd g desc image input (mishap_at row.event 10) row.lost_while_busy
-  pub error_while_busy : HasEnd g desc image input (mishap_at row.event 11) row.error_while_busy
+  pub all : map (λ cell. cell.code) row.cells.items ≡ codes_at row.next
+  pub each : All (IsCell g desc image input row.event) row.cells.items
 
 -- THE EVENTS OF A RUN: its trace has a line for each, and, where the run was not cut short, one for its end
 

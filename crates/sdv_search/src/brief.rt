@@ -8,10 +8,10 @@ ghost use Rattle.sdv_search.specs.Refuted.{HasRefutation, IsRefutation};
 
 use crate::mishaps::mishaps_in_words;
 use crate::refuting::{Found, Refutation, refute};
-use crate::reporting::why;
 use sdv_graph::Graph;
 use sdv_script::Script;
 use sdv_telling::{put, put_numbered};
+use sdv_wrong_words::{write_wrong_event, wrong_event};
 use std::alloc::{AllocError, Global};
 
 /// The runs of a search count so much at most.
@@ -20,8 +20,9 @@ const BUDGET: u64 = 250_000;
 /// A run is looked for only where no run of the script makes more moves from point to point.
 const MOST_MOVES: u128 = 500_000;
 
-/// What an explanation of a script that is refused at a point shows of a run that refutes it: its mishaps, why it stops, and
-/// what prints it whole. Nothing where no run was found, or where a run of the script may make many moves.
+/// What an explanation of a script that is refused at a point shows of a run that refutes it, one that stops there if there is
+/// one: its mishaps, why it stops, and what prints it whole. Nothing where no run was found, or where a run of the script may
+/// make many moves.
 ///
 /// # Errors
 ///
@@ -36,7 +37,11 @@ pub fn shown_run(
     requires graph { IsGraphOfScript (shown script.now) graph.now }
     ensures { IfOk result (λ words. IfSome words (λ _. HasRefutation (shown script.now).text)) }
 {
-    match brief_run(alloc, script, graph)? {
+    let mut run = first_run(alloc, script, graph, &[refused])?;
+    if run.is_none() {
+        run = first_run(alloc, script, graph, &[])?;
+    }
+    match run {
         Some(run) => {
             let words = brief(alloc, graph, refused, &run)?;
             Ok(Some(words))
@@ -45,15 +50,12 @@ pub fn shown_run(
     }
 }
 
-/// A run that refutes a script, if a short search finds one. None where a run of the script may make many moves.
-///
-/// # Errors
-///
-/// Memory was refused.
-pub fn brief_run(
+/// A run that a short search finds. None where a run of the script may make many moves.
+fn first_run(
     alloc: Global,
     script: &Script<'_>,
     graph: &Graph<'_>,
+    points: &[usize],
 ) -> Result<Option<Refutation>, AllocError>
     requires script { IsScript (shown script.now) }
     requires graph { IsGraphOfScript (shown script.now) graph.now }
@@ -62,8 +64,9 @@ pub fn brief_run(
     if graph.steps() > MOST_MOVES {
         return Ok(None);
     }
-    let Found { refutation, .. } = refute(alloc, script, graph, BUDGET)?;
-    Ok(refutation)
+    let Found { refutations, .. } = refute(alloc, script, graph, points, BUDGET)?;
+    let mut refutations = refutations;
+    Ok(refutations.pop())
 }
 
 /// What is told of a run that refutes a script on lines that begin with blanks: its mishaps, and why it stops.
@@ -78,7 +81,7 @@ pub fn run_lines(
 ) -> Result<Vec<u8>, AllocError> {
     let mut text = mishaps_in_words(alloc, graph, "    mishap   ", run)?;
     put(&mut text, "    wrong    ")?;
-    text.extend_from_slice(&why(alloc, &run.wrong)?)?;
+    write_wrong_event(wrong_event(&run.wrong), &mut text).map_err(|_| AllocError)?;
     Ok(text)
 }
 
@@ -97,7 +100,7 @@ fn brief(
     text.extend_from_slice(&run_lines(alloc, graph, run)?)?;
     put(
         &mut text,
-        "    `sdv refute` prints its card, its schedule and its trace\n",
+        "    `sdv verify --save DIR` leaves its card and its schedule in DIR\n",
     )?;
     let point = run.wrong.point;
     if point != refused {

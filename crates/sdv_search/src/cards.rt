@@ -167,7 +167,7 @@ impl Unit {
 }
 
 /// The small cards of a kind whose block length is 512, first that with block addresses.
-pub(crate) fn small_cards(kind: Kind) -> [TriedCard; 3] {
+fn small_cards(kind: Kind) -> [TriedCard; 3] {
     match kind {
         Kind::Sd => [
             TriedCard::SdBlocks { c_size: 0 },

@@ -2,8 +2,8 @@
 //!
 //! Begin at `refute` and `sweep`. Nothing is trusted of the search: what it finds is run again and watched, and the
 //! contract speaks of that run (`specs/Refuted.antt`). `tables` asks first whether a path of the state tables breaks
-//! the script at all, `cards` chooses the cards by the capacities that the script tests and addresses, `paths` follows
-//! it beside the states of these, and `exploring` keeps the trials that come last.
+//! the script at all, `cards` chooses the cards by the capacities that the script tests and addresses, and `paths`
+//! follows it beside the states of these.
 //!
 //! - `refute` returns only a refutation, with its description, schedule and trace; or, by `none_breaks`, that no path
 //!   breaks the script; or, by `find_break`, a path that does; or that `certify` writes no certificate. That no run
@@ -13,6 +13,7 @@
 //!   counts of a search, are not proved.
 #![tactic(auto)]
 
+mod beyond;
 mod breaking;
 mod brief;
 mod budget;
@@ -20,22 +21,21 @@ mod capacities;
 mod cards;
 mod codes;
 mod exits;
-mod exploring;
 mod limit;
 mod mishaps;
 mod paths;
+mod progress;
 mod quiet;
 mod refuting;
-mod reporting;
 mod spot;
 mod sweeping;
 mod table;
 mod tables;
 mod turns;
 
-pub use breaking::report_break;
-pub use brief::{brief_run, run_lines, shown_run};
+pub use beyond::{Beyond, run_on};
+pub use breaking::path_lines;
+pub use brief::{run_lines, shown_run};
 pub use refuting::{Found, Refutation, refute};
-pub use reporting::report;
-pub use sweeping::{Row, RunEnd, SweepGiven, SweepTable, sweep};
-pub use table::{Tally, fails, put_table};
+pub use sweeping::{Cell, Row, RunEnd, SweepGiven, SweepTable, sweep};
+pub use table::{TableForm, fails, table_text};

@@ -1,7 +1,7 @@
 //! The mishaps of a run in words, with the lines of the script.
 
 use crate::refuting::{Refutation, blank_image, input_of};
-use sdv_behavior::{Behavior, CardDesc};
+use sdv_behavior::{CardDesc, Mishap};
 use sdv_controller::Controller;
 use sdv_graph::Graph;
 use sdv_named_schedules::BlankImage;
@@ -14,13 +14,13 @@ use std::io;
 
 /// A mishap of a run.
 #[derive(Clone, Copy)]
-pub(crate) struct Mishap {
+pub(crate) struct SeenMishap {
     /// The point of the graph at which it comes.
     pub point: usize,
     /// The event.
     pub next: Next,
-    /// What the card makes of it.
-    pub behavior: Behavior,
+    /// Which one it is.
+    pub mishap: Mishap,
     /// How many times it comes there, one after another.
     pub times: u64,
 }
@@ -30,23 +30,23 @@ pub(crate) struct Mishap {
 struct Recorder<'s> {
     schedule: &'s [u8],
     event: usize,
-    mishaps: Vec<Mishap>,
+    mishaps: Vec<SeenMishap>,
     failed: bool,
 }
 
 impl Recorder<'_> {
     /// Keeps a mishap; one that comes again at once is counted.
-    fn record(&mut self, point: usize, next: &Next, behavior: Behavior) -> Result<(), AllocError> {
+    fn record(&mut self, point: usize, next: &Next, mishap: Mishap) -> Result<(), AllocError> {
         if let Some(last) = self.mishaps.last_mut() {
-            if last.point == point && last.behavior == behavior {
+            if last.point == point && last.mishap == mishap {
                 last.times = last.times.saturating_add(1);
                 return Ok(());
             }
         }
-        self.mishaps.push(Mishap {
+        self.mishaps.push(SeenMishap {
             point,
             next: *next,
-            behavior,
+            mishap,
             times: 1,
         })?;
         Ok(())
@@ -56,11 +56,8 @@ impl Recorder<'_> {
 impl Onlooker<Controller<Sim<BlankImage>>> for Recorder<'_> {
     fn sees(&mut self, _: &Controller<Sim<BlankImage>>, standing: &Standing, next: &Next) {
         let code = self.schedule.get(self.event).copied().unwrap_or(0);
-        match Behavior::of_code(code) {
-            None | Some(Behavior::Prompt) => (),
-            Some(behavior) => {
-                self.failed |= self.record(standing.point, next, behavior).is_err();
-            }
+        if let Some(mishap) = Mishap::of_code(code) {
+            self.failed |= self.record(standing.point, next, mishap).is_err();
         }
         self.event = self.event.saturating_add(1);
     }
@@ -71,7 +68,7 @@ fn mishaps_of(
     alloc: Global,
     graph: &Graph<'_>,
     refutation: &Refutation,
-) -> Result<Vec<Mishap>, AllocError> {
+) -> Result<Vec<SeenMishap>, AllocError> {
     let schedule = refutation.schedule.as_slice();
     let mut recorder = Recorder {
         schedule,
@@ -135,27 +132,31 @@ fn put_name(text: &mut Text, next: &Next) -> Result<(), AllocError> {
 }
 
 /// The words before and after the name of an event with this mishap.
-fn words_around(behavior: Behavior) -> (&'static str, &'static str) {
-    match behavior {
-        Behavior::Prompt => ("", " is as it should be"),
-        Behavior::LosesCommand => ("", " is lost"),
-        Behavior::LosesAnswer => ("the answer to ", " is lost"),
-        Behavior::IsSlow => ("the card is not ready at ", ""),
-        Behavior::ReportsError => ("the answer to ", " shows an error"),
-        Behavior::Refuses => ("the card refuses ", " with an error"),
-        Behavior::CutsPhase => ("", " is cut"),
-        Behavior::FailsSwitch => ("the switch by ", " fails"),
-        Behavior::LosesCrcStatus => {
+fn words_around(mishap: Mishap) -> (&'static str, &'static str) {
+    match mishap {
+        Mishap::LosesCommand => ("", " is lost"),
+        Mishap::LosesAnswer => ("the answer to ", " is lost"),
+        Mishap::IsSlow => ("the card is not ready at ", ""),
+        Mishap::ReportsError => ("the answer to ", " shows an error"),
+        Mishap::Refuses => ("the card refuses ", " with an error"),
+        Mishap::CutsPhase => ("", " is cut"),
+        Mishap::FailsSwitch => ("the switch by ", " fails"),
+        Mishap::LosesCrcStatus => {
             (
                 "the CRC status of ",
                 " is lost, and the card programs the blocks",
             )
         }
-        Behavior::OmitsAppCommand => ("the answer to ", " lacks APP_CMD"),
-        Behavior::LosesCommandWhileBusy => ("", " is lost, and the card is still busy"),
-        Behavior::ReportsErrorWhileBusy => {
+        Mishap::OmitsAppCommand => ("the answer to ", " lacks APP_CMD"),
+        Mishap::LosesCommandWhileBusy => ("", " is lost, and the card is still busy"),
+        Mishap::ReportsErrorWhileBusy => {
             ("the answer to ", " shows an error while the card is busy")
         }
+        Mishap::FailsWriteLater => ("", " stores nothing, and a later status shows the error"),
+        Mishap::MovesOn => ("the card goes on at ", ""),
+        Mishap::ReportsOutOfRange => ("the answer to ", " shows OUT_OF_RANGE"),
+        Mishap::ReportsEraseSequence => ("the card refuses ", " with ERASE_SEQ_ERROR"),
+        Mishap::ReportsIllegalCommand => ("the answer to ", " shows ILLEGAL_COMMAND"),
     }
 }
 
@@ -164,18 +165,18 @@ fn put_mishap(
     text: &mut Text,
     label: &str,
     graph: &Graph<'_>,
-    mishap: &Mishap,
+    seen: &SeenMishap,
 ) -> Result<(), AllocError> {
     put(text, label)?;
-    if let Some(line) = graph.lines().get(mishap.point) {
+    if let Some(line) = graph.lines().get(seen.point) {
         put_numbered(text, "line ", u64::from(*line), ": ")?;
     }
-    let (before, after) = words_around(mishap.behavior);
+    let (before, after) = words_around(seen.mishap);
     put(text, before)?;
-    put_name(text, &mishap.next)?;
+    put_name(text, &seen.next)?;
     put(text, after)?;
-    if mishap.times > 1 {
-        put_numbered(text, ", ", mishap.times, " times\n")
+    if seen.times > 1 {
+        put_numbered(text, ", ", seen.times, " times\n")
     } else {
         put(text, "\n")
     }

@@ -1,10 +1,12 @@
 //! Every run with one mishap.
 
-ghost use Rattle.std.specs.Prelude.{◌≡◌, ◌/◌, IfErr, IfOk, length};
+ghost use Rattle.std.specs.Prelude.{◌≡◌, ◌/◌, All, IfErr, IfOk, length, map};
 ghost use Rattle.sdv_image.specs.MemBlocks.{shown_of, size_of};
 ghost use Rattle.sdv_search.specs.Swept.{AreRows, EndsAs, HasEnd, IsNoImage, IsRow, IsSweep, NoEnd, NotSwept, RunsTo};
-ghost use Rattle.sdv_search.specs.Swept.{blocks_of, events_in, line_count, mishap_at};
+ghost use Rattle.sdv_search.specs.Swept.{IsCell, blocks_of, events_in, line_count, mishap_at};
+ghost use Rattle.sdv_search.specs.Table.{codes_at};
 
+use crate::table::can_have;
 use sdv_behavior::CardDesc;
 use sdv_controller::Controller;
 use sdv_graph::Graph;
@@ -14,6 +16,9 @@ use sdv_run::{End, RunFault, Standing};
 use sdv_sim::Sim;
 use std::alloc::{AllocError, Global};
 use std::io::{self, Write};
+
+/// The values of a schedule are below this: 0, and one for each row of `MISHAPS`.
+pub const VALUES: u8 = 17;
 
 /// What a run comes to.
 #[derive(Clone, Copy)]
@@ -42,8 +47,17 @@ fn end_of(watched: Result<Watched, RunFault>) -> Result<RunEnd, AllocError>
     }
 }
 
-/// What a run comes to with each mishap at one event.
+/// What a run with one mishap comes to.
 #[derive(Clone, Copy)]
+pub struct Cell {
+    /// The value of the mishap in a schedule.
+    pub code: u8,
+    /// What the run comes to.
+    pub end: RunEnd,
+}
+
+/// What the runs come to that have one mishap at an event.
+#[derive(Drop)]
 pub struct Row {
     /// The number of the event, from 0.
     pub event: usize,
@@ -53,28 +67,8 @@ pub struct Row {
     pub line: u32,
     /// The event.
     pub next: Next,
-    /// The command does not reach the card.
-    pub command_lost: RunEnd,
-    /// The answer does not reach the host.
-    pub answer_lost: RunEnd,
-    /// The card is not ready, and stays busy.
-    pub slow: RunEnd,
-    /// The card takes the command, and answers with an error.
-    pub error: RunEnd,
-    /// The card does not take the command, and answers with an error.
-    pub refused: RunEnd,
-    /// The data phase is cut.
-    pub cut: RunEnd,
-    /// The switch fails.
-    pub switch_fails: RunEnd,
-    /// The card programs the blocks, and their CRC status does not reach the host.
-    pub crc_status_lost: RunEnd,
-    /// The card takes CMD55 as an ordinary command.
-    pub no_app_cmd: RunEnd,
-    /// The command does not reach the card, which does no step of its own.
-    pub lost_while_busy: RunEnd,
-    /// The card does no step of its own, and shows an error.
-    pub error_while_busy: RunEnd,
+    /// A run for each mishap that the event can have, in the order of their values.
+    pub cells: Vec<Cell>,
 }
 
 /// All runs with one mishap.
@@ -202,18 +196,24 @@ impl Common<'_, '_, '_> {
             point: event.point,
             line: self.graph.line(event.point),
             next: event.next,
-            command_lost: self.end_with(alloc, number, 1)?,
-            answer_lost: self.end_with(alloc, number, 2)?,
-            slow: self.end_with(alloc, number, 3)?,
-            error: self.end_with(alloc, number, 4)?,
-            refused: self.end_with(alloc, number, 5)?,
-            cut: self.end_with(alloc, number, 6)?,
-            switch_fails: self.end_with(alloc, number, 7)?,
-            crc_status_lost: self.end_with(alloc, number, 8)?,
-            no_app_cmd: self.end_with(alloc, number, 9)?,
-            lost_while_busy: self.end_with(alloc, number, 10)?,
-            error_while_busy: self.end_with(alloc, number, 11)?,
+            cells: self.cells(alloc, number, &event.next)?,
         })
+    }
+
+    /// What the runs come to with each mishap that an event can have.
+    fn cells(&self, alloc: Global, number: usize, next: &Next) -> Result<Vec<Cell>, AllocError>
+        ensures all { IfOk result (λ cells. map (λ cell. cell.code) cells.items ≡ codes_at next.now) }
+        ensures each { IfOk result (λ cells. All (IsCell self.now.graph.now self.now.desc self.now.image.now
+            self.now.input.now number) cells.items) }
+    {
+        let mut cells = Vec::new(alloc);
+        for code in 0..VALUES {
+            if can_have(code, next) {
+                let end = self.end_with(alloc, number, code)?;
+                cells.push(Cell { code, end })?;
+            }
+        }
+        Ok(cells)
     }
 
     /// The rows of so many events, which were all seen.
