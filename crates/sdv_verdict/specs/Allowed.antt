@@ -8,7 +8,7 @@ use Rattle.sdv_review.specs.declared.finding.Finding.{Finding}
 use Rattle.sdv_review.specs.declared.finding.Matter.{Matter}
 use Rattle.sdv_review.specs.declared.finding.Matter.TheVariants as matters
 use Rattle.sdv_explain.specs.Lines.{line_at, without_return}
-use Rattle.sdv_review.specs.Lines.{kind_word}
+use Rattle.sdv_review.specs.Kinds.{kind_word}
 use Rattle.sdv_telling.specs.Statements.{Text}
 use Rattle.sdv_verdict.specs.declared.judging.Verdict.{Verdict}
 use Rattle.sdv_verdict.specs.declared.judging.Verdict.TheVariants.{Accepted}
@@ -58,6 +58,6 @@ are_quiet text kinds g found = list_all (is_quiet text kinds g) found
 
 -- the script is accepted, and nothing of its review counts
 abbrev pub is_clear : (text : Text) (kinds : List Text) → Graph → Verdict → Bool
-is_clear text kinds g (Accepted bound found writes) =
+is_clear text kinds g (Accepted bound given found writes) =
     are_quiet text kinds g found.items && are_quiet text kinds g writes.items
 is_clear text kinds g verdict = false

@@ -1,7 +1,7 @@
 -- THE VERDICT on a script: it is accepted, with the bound of the checker and what a review finds; or it is refused, with every
 -- point that fails.
 -- This project's own.
-use Rattle.std.specs.Prelude.{◌≡◌}
+use Rattle.std.specs.Prelude.{◌≡◌, ◌<◌, ◌^◌, SomeIff}
 use Rattle.sdv_script.specs.declared.script.Script.{Script}
 use Rattle.sdv_graph.specs.Graph.{Graph}
 use Rattle.sdv_facts.specs.declared.certificate.Certificate.{Certificate}
@@ -12,7 +12,9 @@ use Rattle.sdv_certify.specs.declared.fault.CertifyFault.TheVariants as certifie
 use Rattle.sdv_certify.specs.Assembled.{CertificateOf, RefusedFor, SurveyOf}
 use Rattle.sdv_certify.specs.Refusal.{IsOfPoint}
 use Rattle.sdv_explain.specs.Failing.{AreFailures}
+use Rattle.sdv_script.specs.Shown.{shown}
 use Rattle.sdv_review.specs.Findings.{findings_of}
+use Rattle.sdv_review.specs.Given.{most_of_statements}
 use Rattle.sdv_review.specs.Writes.{WritesFound}
 use Rattle.sdv_verdict.specs.declared.judging.Verdict.{Verdict}
 use Rattle.sdv_verdict.specs.declared.judging.Verdict.TheVariants.{TooMany, Refused, Accepted}
@@ -22,16 +24,18 @@ abbrev pub IsRefusal : Graph → CertifyFault → Certificate → Verdict → Ty
 IsRefusal g fault known (Refused told failures all) = (told ≡ fault) × (all ≡ known) × AreFailures g known.points failures.items
 IsRefusal g fault known verdict = ⊥
 
--- the certificate is closed; its bound is told, and what the review of it finds
-abbrev pub IsAcceptance : Graph → Certificate → Verdict → Type 0
-IsAcceptance g known (Accepted bound found writes) = Closed g known.points × (bound ≡ bound_of g known.points)
+-- the certificate is closed; its bound is told, the most blocks that a run gives, by the statements, exactly where the number has
+-- 64 bits, and what the review of it finds
+abbrev pub IsAcceptance : Script → Graph → Certificate → Verdict → Type 0
+IsAcceptance s g known (Accepted bound given found writes) = Closed g known.points × (bound ≡ bound_of g known.points)
+    × SomeIff given (most_of_statements (shown s).body < 2 ^ 64) (most_of_statements (shown s).body)
     × (found.items ≡ findings_of g known.points) × WritesFound g known.points writes.items
-IsAcceptance g known verdict = ⊥
+IsAcceptance s g known verdict = ⊥
 
 -- of a script and its graph
 abbrev pub IsVerdict : Script → Graph → Verdict → Type 0
 IsVerdict s g TooMany = RefusedFor s certifies.TooMany
 IsVerdict s g (Refused fault failures known) =
     IsOfPoint fault × RefusedFor s fault × SurveyOf s known.points × AreFailures g known.points failures.items
-IsVerdict s g (Accepted bound found writes) = (known : Certificate) × CertificateOf s known.points
-    × IsAcceptance g known (Accepted bound found writes)
+IsVerdict s g (Accepted bound given found writes) = (known : Certificate) × CertificateOf s known.points
+    × IsAcceptance s g known (Accepted bound given found writes)

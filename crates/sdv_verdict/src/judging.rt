@@ -11,7 +11,7 @@ use sdv_check::check;
 use sdv_explain::{Failure, failures_of};
 use sdv_facts::Certificate;
 use sdv_graph::Graph;
-use sdv_review::{Finding, find, find_writes};
+use sdv_review::{Finding, find, find_writes, most_of_block};
 use sdv_script::Script;
 use std::alloc::{AllocError, Global};
 
@@ -33,6 +33,8 @@ pub enum Verdict {
     Accepted {
         /// A run sends at most so many commands.
         bound: u64,
+        /// It gives at most so many blocks, if the number has 64 bits.
+        given: Option<u64>,
         /// What a review finds of points and of names.
         found: Vec<Finding>,
         /// What it finds of writes and erases, and of partitions.
@@ -52,7 +54,7 @@ pub fn judge(alloc: Global, script: &Script<'_>, graph: &Graph<'_>) -> Result<Ve
     match survey(alloc, script, graph) {
         Ok(ScriptSurvey { known, refusal }) => match refusal {
             Some(fault) => refused(alloc, graph, fault, known),
-            None => accepted(alloc, graph, &known),
+            None => accepted(alloc, script, graph, &known),
         },
         Err(CertifyFault::Memory) => Err(AllocError),
         Err(_) => Ok(Verdict::TooMany),
@@ -76,16 +78,22 @@ fn refused(
     })
 }
 
-/// The bound of an accepted script, and what a review finds of it.
-fn accepted(alloc: Global, graph: &Graph<'_>, known: &Certificate) -> Result<Verdict, AllocError>
+/// The bound of an accepted script, the most blocks that it gives, and what a review finds of it.
+fn accepted(
+    alloc: Global,
+    script: &Script<'_>,
+    graph: &Graph<'_>,
+    known: &Certificate,
+) -> Result<Verdict, AllocError>
     requires closed { Closed graph.now known.now.points }
-    ensures { IfOk result (IsAcceptance graph.now known.now) }
+    ensures { IfOk result (IsAcceptance script.now graph.now known.now) }
 {
     let found = find(alloc, graph, known)?;
     let writes = find_writes(alloc, graph, known)?;
     match check(graph, known) {
         Ok(bound) => Ok(Verdict::Accepted {
             bound,
+            given: most_of_block(script.body()),
             found,
             writes,
         }),

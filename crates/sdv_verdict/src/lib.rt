@@ -21,4 +21,4 @@ mod telling;
 pub use allowed::Allowed;
 pub use judging::{Verdict, judge};
 pub use page::{Form, Told, tell, tell_unread};
-pub use run::Runs;
+pub use run::{RunNames, Runs, run_names};

@@ -1,6 +1,6 @@
 //! A verdict as lines of text, or as objects of JSON.
 
-ghost use Rattle.std.specs.Prelude.{◌≡◌, ◌≢◌, IfOk, IfSome, None, map};
+ghost use Rattle.std.specs.Prelude.{◌≡◌, ◌≢◌, [], All, IfOk, map};
 ghost use Rattle.sdv_check.specs.Verified.{IsNoScript};
 ghost use Rattle.sdv_script.specs.OneGraph.{IsGraphOfScript};
 ghost use Rattle.sdv_script.specs.Script.{IsScript};
@@ -11,15 +11,18 @@ ghost use Rattle.sdv_verdict.specs.Told.{IsTold, IsToldByVerdict};
 use crate::allowed::Allowed;
 use crate::judging::{Verdict, judge};
 use crate::remark::{Remark, Severity};
-use crate::run::{RunTold, Runs, run_told, text_of};
+use crate::run::{Below, Runs, path_told, runs_told, text_of};
 use crate::telling::{Subject, fault_remarks, remarks_of, unread_remark};
 use sdv_explain::faults_of;
 use sdv_graph::Graph;
 use sdv_script::{FaultKind, Script, ScriptFault, parse};
-use sdv_search::{Refutation, brief_run};
+use sdv_search::{Found, Refutation, refute};
 use sdv_telling::{Text, put, put_all, put_number, put_numbered};
 use serde_json::{Value, json};
 use std::alloc::{AllocError, Global};
+
+/// The runs of a search count so much at most.
+const BUDGET: u64 = 1_000_000;
 
 /// The form of what is told.
 #[derive(Clone, Copy, PartialEq, Eq)]
@@ -37,8 +40,8 @@ pub struct Told {
     pub page: Text,
     /// The script is accepted, and nothing of its review counts.
     pub is_clear: bool,
-    /// A run that refutes the script, if one was sought and found.
-    pub run: Option<Refutation>,
+    /// Runs that refute the script, if some were sought and found.
+    pub runs: Vec<Refutation>,
 }
 
 /// What is told of a script by the name of its file: each fault of a text that is none, each statement that is refused, and what
@@ -56,7 +59,7 @@ pub fn tell(
 ) -> Result<Told, AllocError>
     ensures told { IfOk result (λ told. IsTold allowed.entry.text.now (map (λ kind. kind.now) allowed.entry.kinds.now)
         told.is_clear) }
-    ensures run { IfOk result (λ told. IfSome told.run (IsRefutation allowed.entry.text.now)) }
+    ensures runs { IfOk result (λ told. All (IsRefutation allowed.entry.text.now) told.runs.items) }
 {
     match parse(alloc, allowed.text) {
         Ok(script) => tell_script(alloc, file, &script, allowed, runs, form),
@@ -75,7 +78,7 @@ pub fn tell_unread(alloc: Global, file: &str, form: Form) -> Result<Text, AllocE
     let said = Said {
         file,
         remarks: &remarks,
-        run: &None,
+        below: &[],
         outcome: Outcome::NotRead,
     };
     page_of(alloc, said, form)
@@ -90,7 +93,7 @@ fn tell_faults(
     form: Form,
 ) -> Result<Told, AllocError>
     requires { fault.kind ≢ FaultKind.Memory → IsNoScript allowed.text.now }
-    ensures run { IfOk result (λ told. told.run ≡ None) }
+    ensures runs { IfOk result (λ told. told.runs.items ≡ []) }
     ensures told { IfOk result (λ told. IsTold allowed.entry.text.now (map (λ kind. kind.now) allowed.entry.kinds.now)
         told.is_clear) }
 {
@@ -101,13 +104,13 @@ fn tell_faults(
     let said = Said {
         file,
         remarks: &remarks,
-        run: &None,
+        below: &[],
         outcome: Outcome::NoScript,
     };
     Ok(Told {
         page: page_of(alloc, said, form)?,
         is_clear: false,
-        run: None,
+        runs: Vec::new(alloc),
     })
 }
 
@@ -124,55 +127,67 @@ fn tell_script(
     requires text { (shown script.now).text ≡ allowed.text.now }
     ensures told { IfOk result (λ told. IsToldByVerdict allowed.entry.text.now
         (map (λ kind. kind.now) allowed.entry.kinds.now) told.is_clear) }
-    ensures run { IfOk result (λ told. IfSome told.run (IsRefutation allowed.entry.text.now)) }
+    ensures runs { IfOk result (λ told. All (IsRefutation allowed.entry.text.now) told.runs.items) }
 {
     let Ok(graph) = script.graph(alloc) else {
         return Err(AllocError);
     };
     let verdict = judge(alloc, script, &graph)?;
     let is_clear = allowed.is_clear(&graph, &verdict);
-    let run = if runs.are_sought() {
-        run_against(alloc, script, &graph, &verdict)?
-    } else {
-        None
-    };
     let subject = Subject {
         allowed,
         graph: &graph,
     };
-    let remarks = remarks_of(alloc, subject, &verdict)?;
-    let told = match &run {
-        Some(run) => Some(run_told(alloc, file, &graph, run, runs, &remarks)?),
-        None => None,
-    };
+    let found = search_of(alloc, script, &graph, &verdict, runs)?;
+    let Found {
+        refutations,
+        unbreakable,
+        broken,
+    } = found;
+    let remarks = remarks_of(alloc, subject, &verdict, unbreakable)?;
+    let mut below = runs_told(alloc, file, &graph, (&refutations, runs), &remarks)?;
+    if let Some(path) = broken {
+        below.push(path_told(alloc, &graph, &path, &remarks)?)?;
+    }
     let said = Said {
         file,
         remarks: &remarks,
-        run: &told,
+        below: &below,
         outcome: outcome_of(&verdict),
     };
     let page = page_of(alloc, said, form)?;
     Ok(Told {
         page,
         is_clear,
-        run,
+        runs: refutations,
     })
 }
 
-/// A run that refutes a script, if it is refused at a point and a run is found.
-fn run_against(
+/// What is found against a script that is refused at points, if runs are looked for.
+fn search_of(
     alloc: Global,
     script: &Script<'_>,
     graph: &Graph<'_>,
     verdict: &Verdict,
-) -> Result<Option<Refutation>, AllocError>
+    runs: Runs<'_>,
+) -> Result<Found, AllocError>
     requires script { IsScript (shown script.now) }
     requires graph { IsGraphOfScript (shown script.now) graph.now }
-    ensures { IfOk result (λ run. IfSome run (IsRefutation (shown script.now).text)) }
+    ensures { IfOk result (λ found. All (IsRefutation (shown script.now).text) found.refutations.items) }
 {
     match verdict {
-        Verdict::Refused { .. } => brief_run(alloc, script, graph),
-        Verdict::TooMany | Verdict::Accepted { .. } => Ok(None),
+        Verdict::Refused { failures, .. } if runs.are_sought() => {
+            let mut points = Vec::new(alloc);
+            for failure in failures {
+                points.push(failure.point)?;
+            }
+            refute(alloc, script, graph, &points, BUDGET)
+        }
+        _ => Ok(Found {
+            refutations: Vec::new(alloc),
+            unbreakable: false,
+            broken: None,
+        }),
     }
 }
 
@@ -182,12 +197,15 @@ enum Outcome {
     NotRead,
     NoScript,
     Refused,
-    Accepted(u64),
+    Accepted { commands: u64, blocks: Option<u64> },
 }
 
 fn outcome_of(verdict: &Verdict) -> Outcome {
     match verdict {
-        Verdict::Accepted { bound, .. } => Outcome::Accepted(*bound),
+        Verdict::Accepted { bound, given, .. } => Outcome::Accepted {
+            commands: *bound,
+            blocks: *given,
+        },
         Verdict::TooMany | Verdict::Refused { .. } => Outcome::Refused,
     }
 }
@@ -197,18 +215,9 @@ fn outcome_of(verdict: &Verdict) -> Outcome {
 struct Said<'s> {
     file: &'s str,
     remarks: &'s [Remark],
-    run: &'s Option<RunTold>,
+    /// What is told below remarks.
+    below: &'s [Below],
     outcome: Outcome,
-}
-
-impl<'s> Said<'s> {
-    /// The run that is told with a remark.
-    fn run_of(self, number: usize) -> Option<&'s RunTold> {
-        match self.run {
-            Some(told) if told.remark == number => Some(told),
-            _ => None,
-        }
-    }
 }
 
 fn page_of(alloc: Global, said: Said<'_>, form: Form) -> Result<Text, AllocError> {
@@ -231,8 +240,8 @@ fn lines_of(alloc: Global, said: Said<'_>) -> Result<Text, AllocError> {
     let mut page = Vec::new(alloc);
     for (number, remark) in said.remarks.iter().enumerate() {
         put_remark(&mut page, said.file, remark)?;
-        if let Some(run) = said.run_of(number) {
-            page.extend_from_slice(&run.lines)?;
+        for below in said.below.iter().filter(|below| below.remark == number) {
+            page.extend_from_slice(&below.lines)?;
         }
     }
     put_all(&mut page, &[said.file, ": "])?;
@@ -240,14 +249,28 @@ fn lines_of(alloc: Global, said: Said<'_>) -> Result<Text, AllocError> {
         Outcome::NotRead => put(&mut page, "not read")?,
         Outcome::NoScript => put(&mut page, "no script")?,
         Outcome::Refused => put(&mut page, "refused")?,
-        Outcome::Accepted(1) => put(&mut page, "accepted, at most 1 command")?,
-        Outcome::Accepted(bound) => {
-            put_numbered(&mut page, "accepted, at most ", bound, " commands")?;
+        Outcome::Accepted { commands, blocks } => {
+            let of_commands = if commands == 1 {
+                " command"
+            } else {
+                " commands"
+            };
+            put_numbered(&mut page, "accepted, at most ", commands, of_commands)?;
+            put_blocks(&mut page, blocks)?;
         }
     }
     put_counts(&mut page, said.remarks)?;
     put(&mut page, "\n")?;
     Ok(page)
+}
+
+/// Adds the most blocks that a script gives, if it gives any.
+fn put_blocks(page: &mut Text, blocks: Option<u64>) -> Result<(), AllocError> {
+    match blocks {
+        None | Some(0) => Ok(()),
+        Some(1) => put(page, ", gives at most 1 block"),
+        Some(blocks) => put_numbered(page, ", gives at most ", blocks, " blocks"),
+    }
 }
 
 /// Adds the line of a remark, and that of the card beside which its statement is refused.
@@ -284,7 +307,11 @@ fn put_counts(page: &mut Text, remarks: &[Remark]) -> Result<(), AllocError> {
 fn objects_of(alloc: Global, said: Said<'_>) -> Result<Text, AllocError> {
     let mut page = Vec::new(alloc);
     for (number, remark) in said.remarks.iter().enumerate() {
-        let object = remark_object(alloc, said.file, remark, said.run_of(number))?;
+        let mut object = remark_object(alloc, said.file, remark)?;
+        for below in said.below.iter().filter(|below| below.remark == number) {
+            let told = &below.value;
+            add(alloc, &mut object, below.member, json!(in alloc; told)?)?;
+        }
         put_object(alloc, &mut page, object)?;
     }
     put_object(alloc, &mut page, verdict_object(alloc, said)?)?;
@@ -305,12 +332,7 @@ fn number_or_null(number: Option<usize>) -> Value {
     }
 }
 
-fn remark_object(
-    alloc: Global,
-    file: &str,
-    remark: &Remark,
-    run: Option<&RunTold>,
-) -> Result<Value, AllocError> {
+fn remark_object(alloc: Global, file: &str, remark: &Remark) -> Result<Value, AllocError> {
     let (words, card) = (text_of(&remark.words), text_of(&remark.card));
     let (severity, kind) = (remark.severity.word(), remark.kind);
     let (line, column) = (remark.place.line, remark.place.column as u64);
@@ -330,10 +352,6 @@ fn remark_object(
         let digits = text_of(&digits);
         add(alloc, &mut object, "shape", json!(in alloc; digits)?)?;
         add(alloc, &mut object, "card", json!(in alloc; card)?)?;
-    }
-    if let Some(run) = run {
-        let told = &run.object;
-        add(alloc, &mut object, "run", json!(in alloc; told)?)?;
     }
     Ok(object)
 }
@@ -358,10 +376,16 @@ fn verdict_object(alloc: Global, said: Said<'_>) -> Result<Value, AllocError> {
     let warnings = count(remarks, Severity::Warning);
     let notes = count(remarks, Severity::Note);
     let object = match outcome {
-        Outcome::Accepted(bound) => json!(in alloc; {
-            "file": file, "verdict": "accepted", "commands": bound,
-            "errors": errors, "warnings": warnings, "notes": notes
-        }),
+        Outcome::Accepted { commands, blocks } => {
+            let blocks = match blocks {
+                Some(blocks) => Value::from(blocks),
+                None => Value::Null,
+            };
+            json!(in alloc; {
+                "file": file, "verdict": "accepted", "commands": commands, "blocks": blocks,
+                "errors": errors, "warnings": warnings, "notes": notes
+            })
+        }
         Outcome::NotRead | Outcome::NoScript | Outcome::Refused => {
             let verdict = match outcome {
                 Outcome::NotRead => "not read",

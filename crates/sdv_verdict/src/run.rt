@@ -1,10 +1,12 @@
-//! A run that breaks a refused script.
+//! Runs that break a refused script.
 
 use crate::remark::Remark;
+use itoa::Buffer;
+use sdv_broken_paths::Break;
 use sdv_graph::Graph;
 use sdv_named_schedules::schedule_text;
-use sdv_search::{Refutation, run_lines};
-use sdv_telling::{Text, put_all, put_numbered};
+use sdv_search::{Beyond, Refutation, path_lines, run_lines, run_on};
+use sdv_telling::{Text, put_all, put_numbered, state_word};
 use serde_json::{Value, json};
 use std::alloc::{AllocError, Global};
 use std::str;
@@ -14,86 +16,186 @@ use std::str;
 pub enum Runs<'t> {
     /// None is.
     Unsought,
-    /// One is for each script.
+    /// One is for each statement that is refused.
     Sought,
-    /// One is, and its card and its schedule go to the files with these names.
+    /// The same, and their cards and schedules go to files in a folder.
     Saved {
-        /// That of the card.
-        card: &'t str,
-        /// That of the schedule.
-        schedule: &'t str,
+        /// The name of the folder.
+        folder: &'t str,
+        /// So many runs went there before.
+        before: u64,
     },
 }
 
 impl Runs<'_> {
-    /// One is looked for.
+    /// Some are looked for.
     pub fn are_sought(self) -> bool {
         !matches!(self, Runs::Unsought)
     }
 }
 
-/// What is told of a run, and of which remark.
+/// The names of the files that take what a run needs.
 #[derive(Drop)]
-pub struct RunTold {
-    /// The number of the remark on the line where it stops, or else of the first.
+pub struct RunNames {
+    /// That of the card.
+    pub card: String,
+    /// That of the schedule.
+    pub schedule: String,
+}
+
+/// What is told below a remark.
+#[derive(Drop)]
+pub struct Below {
+    /// The number of the remark.
     pub remark: usize,
     /// Its lines.
     pub lines: Text,
-    /// Its object.
-    pub object: Value,
+    /// The name of the member of the remark's object that tells it.
+    pub member: &'static str,
+    /// That member.
+    pub value: Value,
 }
 
-/// What is told of a run that breaks the script of a file, beside these remarks.
-pub fn run_told(
-    alloc: Global,
-    file: &str,
-    graph: &Graph<'_>,
-    run: &Refutation,
-    runs: Runs<'_>,
-    remarks: &[Remark],
-) -> Result<RunTold, AllocError> {
-    let there = remarks
-        .iter()
-        .position(|remark| remark.place.line == run.wrong.line);
-    Ok(RunTold {
-        remark: there.unwrap_or(0),
-        lines: lines_of(alloc, file, graph, run, runs)?,
-        object: object_of(alloc, run)?,
+/// The names of the files in a folder for the run with this number: the number, and what it is.
+///
+/// # Errors
+///
+/// Memory was refused.
+pub fn run_names(alloc: Global, folder: &str, number: u64) -> Result<RunNames, AllocError> {
+    Ok(RunNames {
+        card: file_name(alloc, folder, number, ".card")?,
+        schedule: file_name(alloc, folder, number, ".schedule")?,
     })
 }
 
-/// The lines of a run: its mishaps, why it stops, and how it is repeated.
-fn lines_of(
+/// The name of a file in a folder, by its number and its ending.
+fn file_name(alloc: Global, folder: &str, number: u64, ending: &str) -> Result<String, AllocError> {
+    let mut digits = Buffer::new();
+    let mut name = String::new(alloc);
+    for piece in [folder, "/", digits.format(number), ending] {
+        name.push_str(piece)?;
+    }
+    Ok(name)
+}
+
+/// The number of the remark on a point, or else of the first.
+fn remark_at(remarks: &[Remark], point: usize) -> usize {
+    let there = remarks
+        .iter()
+        .position(|remark| remark.point == Some(point));
+    there.unwrap_or(0)
+}
+
+/// What is told of runs that break the script of a file, below these remarks.
+pub fn runs_told(
     alloc: Global,
     file: &str,
     graph: &Graph<'_>,
+    (found, runs): (&[Refutation], Runs<'_>),
+    remarks: &[Remark],
+) -> Result<Vec<Below>, AllocError> {
+    let mut told = Vec::new(alloc);
+    for (place, run) in found.iter().enumerate() {
+        let later = run_on(alloc, graph, run)?;
+        let mut lines = lines_of(alloc, graph, run, &later)?;
+        put_again(alloc, &mut lines, file, run, (runs, place as u64))?;
+        told.push(Below {
+            remark: remark_at(remarks, run.wrong.point),
+            lines,
+            member: "run",
+            value: object_of(alloc, run, &later)?,
+        })?;
+    }
+    Ok(told)
+}
+
+/// What is told of a path of the state tables that breaks a script, below these remarks.
+pub fn path_told(
+    alloc: Global,
+    graph: &Graph<'_>,
+    path: &Break,
+    remarks: &[Remark],
+) -> Result<Below, AllocError> {
+    let lines = path_lines(alloc, graph, path)?;
+    let words = text_of(&lines);
+    let value = json!(in alloc; words)?;
+    Ok(Below {
+        remark: remark_at(remarks, path.point),
+        lines,
+        member: "path",
+        value,
+    })
+}
+
+/// Adds what a run does behind what is not allowed, and in which state the card is then.
+fn put_later(text: &mut Text, later: &Beyond) -> Result<(), AllocError> {
+    for line in text_of(&later.lines).lines() {
+        put_all(text, &["    then     ", line, "\n"])?;
+    }
+    let front = if later.is_cut {
+        "    then     .., with the card in "
+    } else {
+        "    left     the card in "
+    };
+    put_all(text, &[front, state_word(later.state), " state\n"])
+}
+
+/// The lines of a run: its mishaps, why it stops, and what it would do then.
+fn lines_of(
+    alloc: Global,
+    graph: &Graph<'_>,
     run: &Refutation,
-    runs: Runs<'_>,
+    later: &Option<Beyond>,
 ) -> Result<Text, AllocError> {
     let mut text = run_lines(alloc, graph, run)?;
-    if let Runs::Saved { card, schedule } = runs {
-        put_all(&mut text, &["    again    sdv try ", file, " ", card])?;
-        put_numbered(&mut text, " new:", u64::from(run.blocks), " ")?;
-        put_all(&mut text, &[schedule, "\n"])?;
+    if let Some(later) = later {
+        put_later(&mut text, later)?;
     }
     Ok(text)
 }
 
-/// The object of a run: its card over so many blocks of zeros, its schedule, the line where it stops, and its trace.
-fn object_of(alloc: Global, run: &Refutation) -> Result<Value, AllocError> {
+/// Adds how a run is repeated, which is the one with this number, from 0, of its script, if its files are saved.
+fn put_again(
+    alloc: Global,
+    text: &mut Text,
+    file: &str,
+    run: &Refutation,
+    (runs, place): (Runs<'_>, u64),
+) -> Result<(), AllocError> {
+    let Runs::Saved { folder, before } = runs else {
+        return Ok(());
+    };
+    let number = before.saturating_add(place).saturating_add(1);
+    let names = run_names(alloc, folder, number)?;
+    put_all(
+        text,
+        &["    again    sdv try ", file, " ", names.card.as_str()],
+    )?;
+    put_numbered(text, " new:", u64::from(run.blocks), " ")?;
+    put_all(text, &[names.schedule.as_str(), "\n"])
+}
+
+/// The object of a run: its card over so many blocks of zeros, its schedule, the line where it stops, its trace, and what it
+/// would do then.
+fn object_of(alloc: Global, run: &Refutation, later: &Option<Beyond>) -> Result<Value, AllocError> {
     let schedule = schedule_text(alloc, run.schedule.as_slice())?;
     let (card, schedule, trace) = (
         text_of(run.card.as_bytes()),
         text_of(&schedule),
         text_of(&run.trace),
     );
+    let then = match later {
+        Some(later) => text_of(&later.lines),
+        None => "",
+    };
     let (blocks, line) = (run.blocks, run.wrong.line);
     let object = json!(in alloc; {
         "card": card,
         "blocks": blocks,
         "schedule": schedule,
         "line": line,
-        "trace": trace
+        "trace": trace,
+        "then": then
     });
     object.map_err(|_| AllocError)
 }

@@ -16,6 +16,10 @@ use std::alloc::{AllocError, Global};
 const TOO_MANY: &str =
     "a run may send more than 1099511627776 commands, or its statements meet more than 65536 shapes of cards in all; give loops fewer turns, or make two scripts of it";
 
+/// What is said where a script is refused that no path of the state tables breaks.
+const UNBROKEN: &str =
+    "no card of the state tables breaks the script; it is refused because the certificate cannot tell some cases apart";
+
 /// The word for a fault of a text.
 fn fault_word(kind: FaultKind) -> &'static str {
     match kind {
@@ -72,11 +76,12 @@ pub struct Subject<'s, 'g> {
     pub graph: &'s Graph<'g>,
 }
 
-/// What is said of a verdict, in the order of the text.
+/// What is said of a verdict, in the order of the text, and whether no path of the state tables breaks the script.
 pub fn remarks_of(
     alloc: Global,
     subject: Subject<'_, '_>,
     verdict: &Verdict,
+    is_unbroken: bool,
 ) -> Result<Vec<Remark>, AllocError> {
     let places = statement_places(alloc, subject.allowed.text)?;
     let mut remarks = Vec::new(alloc);
@@ -98,7 +103,27 @@ pub fn remarks_of(
         }
     }
     remarks.sort_by_key(|remark| (remark.place.line, remark.place.column))?;
+    if is_unbroken {
+        let place = match remarks.first() {
+            Some(remark) => remark.place,
+            None => Place { line: 1, column: 1 },
+        };
+        remarks.push(unbroken_remark(alloc, place)?)?;
+    }
     Ok(remarks)
+}
+
+/// What is said where a script is refused that no path of the state tables breaks.
+fn unbroken_remark(alloc: Global, place: Place) -> Result<Remark, AllocError> {
+    Ok(Remark {
+        place,
+        severity: Severity::Note,
+        kind: "unbroken",
+        words: Vec::from_slice(alloc, UNBROKEN.as_bytes())?,
+        card: Vec::new(alloc),
+        point: None,
+        shape: None,
+    })
 }
 
 /// What is said of a file that cannot be used.
