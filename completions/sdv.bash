@@ -39,7 +39,7 @@ _sdv() {
     last=$((${#words[@]} - 1))
     local word=${words[last]} before=${words[last - 1]}
     if [ "$last" -eq 1 ]; then
-        _sdv_words "$word" "frame verify certify check run batch explain emit audit drive card review try refute --help --version"
+        _sdv_words "$word" "frame verify certify check run batch explain emit audit drive card try --help --version"
         return
     fi
     # which of the command's words this is, options and their files left out
@@ -73,17 +73,12 @@ _sdv() {
     try:*)
         case $before:$word:$place in
         --in:* | --out:*) _sdv_files "$word" '*' ;;
-        *:-*:*) _sdv_words "$word" "--in --out --each --lines" ;;
+        --only:*) _sdv_words "$word" "wrong" ;;
+        *:-*:*) _sdv_words "$word" "--in --out --each --only --json --lines" ;;
         *:0) _sdv_files "$word" '*.sdv' ;;
         *:1) _sdv_files "$word" '*.card' ;;
         *:2) _sdv_image "$word" ;;
         *:3) _sdv_files "$word" '*' ;;
-        esac ;;
-    refute:*)
-        case $before:$word:$place in
-        --card:* | --schedule:*) _sdv_files "$word" '*' ;;
-        *:-*:*) _sdv_words "$word" "--card --schedule" ;;
-        *:0) _sdv_files "$word" '*.sdv' ;;
         esac ;;
     drive:*)
         case $before:$word:$place in
@@ -116,11 +111,6 @@ _sdv() {
         -*) _sdv_words "$word" "--json --annotate --script --registers --svg" ;;
         *:0) _sdv_words "$word" "sd emmc" ;;
         *:1) _sdv_files "$word" '*.trace' ;;
-        esac ;;
-    review:*)
-        case $word:$place in
-        -*) _sdv_words "$word" "--json" ;;
-        *:0) _sdv_files "$word" '*.sdv' ;;
         esac ;;
     explain:*)
         case $word:$place in

@@ -22,7 +22,7 @@ function __sdv_at
     __fish_seen_subcommand_from $argv[2..]; and test (__sdv_place) -eq $argv[1]
 end
 
-set -l commands frame verify certify check run batch explain emit audit drive card review try refute
+set -l commands frame verify certify check run batch explain emit audit drive card try
 
 complete -c sdv -f
 complete -c sdv -n "not __fish_seen_subcommand_from $commands" -s h -l help -d "How the program is called"
@@ -38,11 +38,9 @@ complete -c sdv -n "not __fish_seen_subcommand_from $commands" -a emit -d "The t
 complete -c sdv -n "not __fish_seen_subcommand_from $commands" -a audit -d "Where a trace leaves the rules"
 complete -c sdv -n "not __fish_seen_subcommand_from $commands" -a drive -d "Run a script over lines"
 complete -c sdv -n "not __fish_seen_subcommand_from $commands" -a card -d "Answer requests by a simulated card"
-complete -c sdv -n "not __fish_seen_subcommand_from $commands" -a review -d "What an accepted script leaves open for the data"
 complete -c sdv -n "not __fish_seen_subcommand_from $commands" -a try -d "Run any script beside a simulated card"
-complete -c sdv -n "not __fish_seen_subcommand_from $commands" -a refute -d "A run that shows that a script is refused"
 
-complete -c sdv -n "__sdv_at 0 certify check run explain emit drive review try refute" -k -a "(__fish_complete_suffix .sdv)"
+complete -c sdv -n "__sdv_at 0 certify check run explain emit drive try" -k -a "(__fish_complete_suffix .sdv)"
 complete -c sdv -n "__fish_seen_subcommand_from verify" -k -a "(__fish_complete_suffix .sdv)"
 complete -c sdv -n "__fish_seen_subcommand_from verify" -l no-run -d "Look for no run"
 complete -c sdv -n "__fish_seen_subcommand_from verify" -l save -r -a "(__fish_complete_directories)" -d "The folder for what runs need"
@@ -61,20 +59,18 @@ complete -c sdv -n "__fish_seen_subcommand_from run drive try" -l out -r -F -d "
 complete -c sdv -n "__fish_seen_subcommand_from run" -l registers -r -F -d "The file for the registers that it receives"
 complete -c sdv -n "__fish_seen_subcommand_from drive" -l trace -r -F -d "The file for the trace"
 complete -c sdv -n "__fish_seen_subcommand_from drive" -l plain -d "Print commands without their data phases"
-complete -c sdv -n "__fish_seen_subcommand_from refute" -l card -r -F -d "The file for the description of the card"
-complete -c sdv -n "__fish_seen_subcommand_from refute" -l schedule -r -F -d "The file for the schedule"
 complete -c sdv -n "__fish_seen_subcommand_from emit" -l binary -r -F -d "The file for the words of the table as bytes"
-complete -c sdv -n "__fish_seen_subcommand_from audit" -l json -d "Print JSON"
+complete -c sdv -n "__fish_seen_subcommand_from audit try" -l json -d "Print JSON"
 complete -c sdv -n "__fish_seen_subcommand_from audit" -l annotate -d "Print each line of the trace too"
 complete -c sdv -n "__fish_seen_subcommand_from audit" -l script -r -F -d "The script of the trace"
 complete -c sdv -n "__fish_seen_subcommand_from audit" -l registers -r -F -d "The bytes of the registers that came"
 complete -c sdv -n "__fish_seen_subcommand_from audit" -l svg -d "Print a picture in SVG"
-complete -c sdv -n "__fish_seen_subcommand_from review" -l json -d "Print JSON"
 complete -c sdv -n "__fish_seen_subcommand_from explain" -l why -d "Print only why it is refused"
 complete -c sdv -n "__fish_seen_subcommand_from explain" -l dot -d "Print the graph for Graphviz"
 complete -c sdv -n "__fish_seen_subcommand_from explain" -l no-faults -d "Leave the statements that end in a fault out of the graph"
 complete -c sdv -n "__fish_seen_subcommand_from card" -l describe -d "Print the description in words"
 complete -c sdv -n "__fish_seen_subcommand_from try" -l each -d "Print how each run with one mishap ends"
+complete -c sdv -n "__fish_seen_subcommand_from try" -l only -x -a wrong -d "Tell of these runs those alone that are wrong"
 complete -c sdv -n "__fish_seen_subcommand_from try" -l lines -d "Print where the host changes its data lines"
 complete -c sdv -n "__sdv_at 1 audit" -k -a "(__fish_complete_suffix .trace)"
 complete -c sdv -n "__sdv_at 0 card" -k -a "(__fish_complete_suffix .card)"

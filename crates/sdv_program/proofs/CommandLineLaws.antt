@@ -194,26 +194,14 @@ card_means words none =
     let rows = (rows_at (shape 10) words).1 in
     one_given (codes "CARD") _ rows (given.0 refl)
 
-review_means : Means (shape 11)
-review_means words none =
+try_means : Means (shape 11)
+try_means words none =
     let given = leaf_required (shape 11) words (one_word 1 (words_of 11)) none in
     let rows = (rows_at (shape 11) words).1 in
-    one_given (codes "SCRIPT") _ rows (given.0 refl)
-
-try_means : Means (shape 12)
-try_means words none =
-    let given = leaf_required (shape 12) words (one_word 1 (words_of 12)) none in
-    let rows = (rows_at (shape 12) words).1 in
     then_given (codes "SCRIPT") _ rows (given.0 refl) (λ _. then_given (codes "CARD") _ rows (given.1.0 refl) (λ _. one_given (codes "IMAGE") _ rows (given.1.1.0 refl)))
 
-refute_means : Means (shape 13)
-refute_means words none =
-    let given = leaf_required (shape 13) words (one_word 1 (words_of 13)) none in
-    let rows = (rows_at (shape 13) words).1 in
-    one_given (codes "SCRIPT") _ rows (given.0 refl)
-
 each_means : AllByRecursion Means (built command_line).subs
-each_means = (frame_means, (verify_means, (certify_means, (check_means, (run_means, (batch_means, (explain_means, (emit_means, (audit_means, (drive_means, (card_means, (review_means, (try_means, (refute_means, tt))))))))))))))
+each_means = (frame_means, (verify_means, (certify_means, (check_means, (run_means, (batch_means, (explain_means, (emit_means, (audit_means, (drive_means, (card_means, (try_means, tt))))))))))))
 
 found_means : (p : Shape → Bool) (shapes : List Shape) → AllByRecursion Means shapes → IfSome (find p shapes) Means
 found_means p [] each = tt

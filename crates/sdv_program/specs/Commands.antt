@@ -61,10 +61,8 @@ commands =
     ∷ command (codes "drive") (script ∷ certificate ∷ with_value (codes "in") ∷ with_value (codes "out")
     ∷ with_value (codes "trace") ∷ flag (codes "plain") ∷ [])
     ∷ command (codes "card") (card ∷ optional (codes "IMAGE") ∷ schedule ∷ flag (codes "describe") ∷ [])
-    ∷ command (codes "review") (script ∷ flag (codes "json") ∷ [])
     ∷ command (codes "try") (script ∷ card ∷ image ∷ schedule ∷ with_value (codes "in") ∷ with_value (codes "out")
-    ∷ flag (codes "each") ∷ flag (codes "lines") ∷ [])
-    ∷ command (codes "refute") (script ∷ with_value (codes "card") ∷ with_value (codes "schedule") ∷ [])
+    ∷ flag (codes "each") ∷ with_value (codes "only") ∷ flag (codes "json") ∷ flag (codes "lines") ∷ [])
     ∷ []
 
 abbrev pub command_in : List Command → (name : Text) → Option Command

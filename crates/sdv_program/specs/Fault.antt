@@ -21,8 +21,6 @@ use Rattle.sdv_check.specs.declared.fault.CheckFault.{CheckFault}
 use Rattle.sdv_check.specs.declared.fault.CheckFault.TheVariants as checks
 use Rattle.sdv_check.specs.declared.fault.VerifyFault.{VerifyFault}
 use Rattle.sdv_check.specs.declared.fault.VerifyFault.TheVariants as verifies
-use Rattle.sdv_review.specs.declared.fault.ReviewFault.{ReviewFault}
-use Rattle.sdv_review.specs.declared.fault.ReviewFault.TheVariants as reviews
 use Rattle.sdv_table.specs.declared.fault.Part.{Part}
 use Rattle.sdv_emit.specs.declared.fault.EmitFault.{EmitFault}
 use Rattle.sdv_emit.specs.declared.fault.EmitFault.TheVariants as emits
@@ -39,7 +37,7 @@ use Rattle.sdv_refute.specs.declared.simulated.TryFault.TheVariants as tries
 use Rattle.sdv_program.specs.declared.line.LineFault.{LineFault}
 use Rattle.sdv_program.specs.declared.line.LineFault.TheVariants as requests
 use Rattle.sdv_program.specs.declared.fault.Fault.{Fault}
-use Rattle.sdv_program.specs.declared.fault.Fault.TheVariants.{Usage, File, Script, Certificate, Refused, Uncertified, Unserved, Wide, Card, Schedule, Run, OtherKind, Wrong, NoRun, NoPath, NoEffect, Request, Unanswered, Named, Output, Memory, Trace, Stray, Found}
+use Rattle.sdv_program.specs.declared.fault.Fault.TheVariants.{Usage, File, Script, Certificate, Refused, Uncertified, Unserved, Wide, Card, Schedule, Run, OtherKind, Wrong, NoEffect, Request, Unanswered, Named, Output, Memory, Trace, Stray, Found}
 
 -- WHAT IS SAID: the lines that are fixed to the letter. Of other faults a line is said in words for people, which tests pin
 
@@ -118,7 +116,7 @@ run_fault_name runs.Trace = codes "Trace"
 run_fault_name runs.Memory = codes "Memory"
 
 -- The line of a fault, where it is fixed. Nothing is said of a failed output, nor of a run that ended in a fault of its script,
--- whose trace says so, nor of what an audit or a review found, which its report says.
+-- whose trace says so, nor of what an audit or a verdict found, which its report says.
 abbrev pub fault_line : Fault → Option Text
 fault_line (File file) = Some (named_line (codes "cannot use ") file.now)
 fault_line (Script fault) = Some (numbered_line (codes "script fault ") (kind_name fault.kind) (codes " line ") fault.line)
@@ -155,7 +153,7 @@ SaysSo (Some line) before after = SaysLine line before after
 abbrev pub Says : Fault → (before after : Option (List ℕ)) → Type 0
 Says fault before after = SaysSo (fault_line fault) before after
 
--- THE STATUS: 1 for a refusal, for a run that did not end in `done` and for what an audit or a review found, 2 for words,
+-- THE STATUS: 1 for a refusal, for a run that did not end in `done` and for what an audit or a verdict found, 2 for words,
 -- files, requests and output that cannot be used, 3 for want of memory
 
 abbrev pub status_of : Fault → ℕ
@@ -174,8 +172,6 @@ status_of (Schedule fault) = 1
 status_of (Run fault) = 1
 status_of OtherKind = 1
 status_of (Wrong event) = 1
-status_of (NoRun runs mishaps ended broken) = 1
-status_of NoPath = 1
 status_of NoEffect = 1
 status_of (Request fault) = 2
 status_of (Unanswered fault) = 2
@@ -212,12 +208,6 @@ fault_of_verify (verifies.Script fault) = Script fault
 fault_of_verify (verifies.Certificate fault) = Certificate fault
 fault_of_verify (verifies.Check fault) = Refused fault
 fault_of_verify verifies.Memory = Memory
-
--- scripts that are not reviewed
-abbrev pub fault_of_review : ReviewFault → Fault
-fault_of_review (reviews.Script fault) = Script fault
-fault_of_review (reviews.Refused fault) = fault_of_certify fault
-fault_of_review reviews.Memory = Memory
 
 -- why no table of a script is printed
 abbrev pub fault_of_emit : EmitFault → Fault

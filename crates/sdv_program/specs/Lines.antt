@@ -4,12 +4,12 @@ use Rattle.std.specs.Prelude.{Bool, false, List, [], Option, Some, None, codes, 
 use Rattle.std.specs.Str.{bytes_eq}
 use Rattle.clap.specs.Words.{Row, Text, all_of, first_of}
 use Rattle.sdv_program.specs.declared.line.Line.{Line as CodeLine}
-use Rattle.sdv_program.specs.declared.line.Line.TheVariants.{Verify, Frame, Certify, Check, Run, Batch, Explain, Emit, Audit, Drive, Card, Review, Try, Refute}
+use Rattle.sdv_program.specs.declared.line.Line.TheVariants.{Verify, Frame, Certify, Check, Run, Batch, Explain, Emit, Audit, Drive, Card, Try}
 use Rattle.sdv_program.specs.declared.line.AuditLine.{AuditLine}
 use Rattle.sdv_program.specs.declared.line.CardLine.{CardLine}
 use Rattle.sdv_program.specs.declared.line.ExplainLine.{ExplainLine}
 use Rattle.sdv_program.specs.declared.line.TryLine.{TryLine}
-use Rattle.sdv_program.specs.Requests.{Request, verify, verify_names_of, frame, certify, check, run, batch, drive, emit, review, refute, drive_names_of, emit_names_of, names_of, refute_names_of}
+use Rattle.sdv_program.specs.Requests.{Request, verify, verify_names_of, frame, certify, check, run, batch, drive, emit, drive_names_of, emit_names_of, names_of}
 
 -- the words of an explanation or of a drawing
 pub record ExplainTexts : Type 0 where
@@ -45,6 +45,8 @@ pub record TryTexts : Type 0 where
   pub input : Option Text
   pub output : Option Text
   pub each : Bool
+  pub only : Option Text
+  pub json : Bool
   pub lines : Bool
 
 pub data Line : Type 0 where
@@ -152,9 +154,6 @@ by_card_words rows = by_word (codes "CARD") rows (λ card. Some (of_card (record
   describe = is_set (codes "describe") rows;
 })))
 
-abbrev pub by_review_words : List Row → Option Line
-by_review_words rows = by_script (λ script. review script (is_set (codes "json") rows)) rows
-
 abbrev pub by_try_words : List Row → Option Line
 by_try_words rows =
     by_word (codes "SCRIPT") rows (λ script. by_word (codes "CARD") rows (λ card. by_word (codes "IMAGE") rows (λ image.
@@ -166,15 +165,10 @@ by_try_words rows =
       input = first_of (codes "in") rows;
       output = first_of (codes "out") rows;
       each = is_set (codes "each") rows;
+      only = first_of (codes "only") rows;
+      json = is_set (codes "json") rows;
       lines = is_set (codes "lines") rows;
     })))))
-
-abbrev pub by_refute_words : List Row → Option Line
-by_refute_words rows = by_script (λ script. refute (record {
-  script = script;
-  description = first_of (codes "card") rows;
-  schedule = first_of (codes "schedule") rows;
-})) rows
 
 -- the line in a command's name and the rows of its words
 abbrev pub other_line_in : (name : Text) → List Row → Option Line
@@ -189,9 +183,7 @@ other_line_in name rows =
     else if bytes_eq name (codes "audit") then by_audit_words rows
     else if bytes_eq name (codes "drive") then by_drive_words rows
     else if bytes_eq name (codes "card") then by_card_words rows
-    else if bytes_eq name (codes "review") then by_review_words rows
     else if bytes_eq name (codes "try") then by_try_words rows
-    else if bytes_eq name (codes "refute") then by_refute_words rows
     else None
 
 abbrev pub line_in : Text × List Row → Option Line
@@ -236,6 +228,8 @@ try_line_of words = record {
   input = option_map (λ file. file.now) words.input;
   output = option_map (λ file. file.now) words.output;
   each = words.each;
+  only = option_map (λ word. word.now) words.only;
+  json = words.json;
   lines = words.lines;
 }
 
@@ -251,6 +245,4 @@ seen_line (Emit words) = always (emit (emit_names_of words))
 seen_line (Audit words) = of_audit (audit_line_of words)
 seen_line (Drive files) = always (drive (drive_names_of files))
 seen_line (Card words) = of_card (card_line_of words)
-seen_line (Review script json) = always (review script.now json)
 seen_line (Try words) = of_try (try_line_of words)
-seen_line (Refute files) = always (refute (refute_names_of files))

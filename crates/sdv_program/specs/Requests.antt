@@ -3,12 +3,11 @@ use Rattle.std.specs.Prelude.{Bool, List, Option, option_map}
 use Rattle.clap.specs.Walk.{texts}
 use Rattle.clap.specs.Words.{Text}
 use Rattle.sdv_program.specs.declared.request.Request.{Request as CodeRequest}
-use Rattle.sdv_program.specs.declared.request.Request.TheVariants.{Verify, Frame, Certify, Check, Run, Batch, Explain, Graph, Emit, Audit, Decode, Drive, Card, Describe, Review, Try, Sweep, Refute}
+use Rattle.sdv_program.specs.declared.request.Request.TheVariants.{Verify, Frame, Certify, Check, Run, Batch, Explain, Graph, Emit, Audit, Decode, Drive, Card, Describe, Try, Sweep}
 use Rattle.sdv_program.specs.declared.line.VerifyWords.{VerifyWords}
 use Rattle.sdv_program.specs.declared.line.RunFiles.{RunFiles}
 use Rattle.sdv_program.specs.declared.line.EmitWords.{EmitWords}
 use Rattle.sdv_program.specs.declared.line.DriveFiles.{DriveFiles}
-use Rattle.sdv_program.specs.declared.line.RefuteFiles.{RefuteFiles}
 use Rattle.sdv_program.specs.declared.request.AuditWords.{AuditWords}
 use Rattle.sdv_program.specs.declared.request.CardFiles.{CardFiles}
 use Rattle.sdv_program.specs.declared.request.ExplainWords.{ExplainWords}
@@ -88,18 +87,14 @@ pub record TryNames : Type 0 where
   pub output : Option Text
   pub lines : Bool
 
--- the files of a search for a run that refutes a script, by their names
-pub record RefuteNames : Type 0 where
-  pub script : Text
-  pub description : Option Text
-  pub schedule : Option Text
-
 -- the files of all runs with one mishap, by their names
 pub record SweepNames : Type 0 where
   pub script : Text
   pub card : Text
   pub image : Text
   pub input : Option Text
+  pub only_wrong : Bool
+  pub json : Bool
 
 -- the kind of a card, the files of a script and of a trace, that of the bytes of registers if it is given, and how the answer is
 -- printed
@@ -127,11 +122,9 @@ pub data Request : Type 0 where
   -- a card that answers lines
   serve : CardNames → Request
   describe : (card : Text) (schedule : Option Text) → Request
-  review : (script : Text) (json : Bool) → Request
   -- a run without a certificate
   attempt : TryNames → Request
   sweep : SweepNames → Request
-  refute : RefuteNames → Request
 
 -- THE CODE'S REQUEST, with references to the words
 
@@ -196,19 +189,14 @@ try_names_of files = record {
   lines = files.lines;
 }
 
-abbrev pub refute_names_of : RefuteFiles → RefuteNames
-refute_names_of files = record {
-  script = files.script.now;
-  description = option_map (λ file. file.now) files.description;
-  schedule = option_map (λ file. file.now) files.schedule;
-}
-
 abbrev pub sweep_names_of : SweepFiles → SweepNames
 sweep_names_of files = record {
   script = files.script.now;
   card = files.card.now;
   image = files.image.now;
   input = option_map (λ file. file.now) files.input;
+  only_wrong = files.only_wrong;
+  json = files.json;
 }
 
 abbrev pub explain_names_of : ExplainWords → ExplainNames
@@ -246,7 +234,5 @@ seen (Decode words) = decode (decode_names_of words)
 seen (Drive files) = drive (drive_names_of files)
 seen (Card files) = serve (card_names_of files)
 seen (Describe card schedule) = describe card.now (option_map (λ file. file.now) schedule)
-seen (Review script json) = review script.now json
 seen (Try files) = attempt (try_names_of files)
 seen (Sweep files) = sweep (sweep_names_of files)
-seen (Refute files) = refute (refute_names_of files)

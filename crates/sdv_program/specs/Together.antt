@@ -1,5 +1,6 @@
 -- Which words of a command go TOGETHER, and what a line then asks for.
-use Rattle.std.specs.Prelude.{Bool, ◌&&◌, Option, Some, None, if◌then◌else◌, is_some}
+use Rattle.std.specs.Prelude.{Bool, true, false, ◌&&◌, Option, Some, None, codes, if◌then◌else◌, is_some, option_map}
+use Rattle.std.specs.Str.{bytes_eq}
 use Rattle.clap.specs.Words.{Text}
 use Rattle.sdv_program.specs.Lines.{Line, AuditTexts, CardTexts, ExplainTexts, TryTexts, always, of_audit, of_card, of_explain, of_try}
 use Rattle.sdv_program.specs.Requests.{Request, attempt, audit, decode, describe, explain, graph, serve, sweep}
@@ -48,15 +49,34 @@ card_request words =
     if words.describe then unless (is_some words.schedule) (describe words.card words.image)
     else served words words.image
 
+-- the runs alone are told that come to what is not allowed, where the word for these is given; there is no other such word
+abbrev pub only_wrong_by : Option Text → Option Bool
+only_wrong_by None = Some false
+only_wrong_by (Some word) = if bytes_eq word (codes "wrong") then Some true else None
+
+abbrev pub swept : TryTexts → (only_wrong : Bool) → Request
+swept words only_wrong = sweep (record {
+  script = words.script;
+  card = words.card;
+  image = words.image;
+  input = words.input;
+  only_wrong = only_wrong;
+  json = words.json;
+})
+
 -- runs with each mishap have their own schedules, and no output or trace
-abbrev pub try_request : TryTexts → Option Request
-try_request words =
-    if words.each
-    then (if words.lines then None
+abbrev pub sweep_request : TryTexts → Option Request
+sweep_request words =
+    if words.lines then None
     else if is_some words.schedule then None
-    else unless (is_some words.output)
-    (sweep (record { script = words.script; card = words.card; image = words.image; input = words.input })))
-    else Some (attempt (record {
+    else if is_some words.output then None
+    else option_map (swept words) (only_wrong_by words.only)
+
+-- a single run has a trace, and no table
+abbrev pub attempt_request : TryTexts → Option Request
+attempt_request words =
+    if words.json then None
+    else unless (is_some words.only) (attempt (record {
       script = words.script;
       card = words.card;
       image = words.image;
@@ -65,6 +85,9 @@ try_request words =
       output = words.output;
       lines = words.lines;
     }))
+
+abbrev pub try_request : TryTexts → Option Request
+try_request words = if words.each then sweep_request words else attempt_request words
 
 abbrev pub request_of : Line → Option Request
 request_of (always request) = Some request

@@ -20,7 +20,6 @@ use sdv_image::SimFault;
 use sdv_lines::{AskFault, ServeFault};
 use sdv_named_schedules::ScheduleFault;
 use sdv_refute::TryFault;
-use sdv_review::ReviewFault;
 use sdv_run::RunFault;
 use sdv_script::{FaultKind, ScriptFault};
 use sdv_table::Part;
@@ -34,7 +33,7 @@ const NO_EVENT: &str = "schedule fault: no event (CMD18, 2nd CMD18, line 31, eve
 
 /// What is said of a line that names no mishap.
 const NO_MISHAP: &str =
-    "schedule fault: no mishap (command lost, answer lost, not ready, error shown, refused, phase cut, switch fails, CRC status lost, no APP_CMD, lost while busy, error while busy)";
+    "schedule fault: no mishap (command lost, answer lost, not ready, error shown, refused, phase cut, switch fails, CRC status lost, no APP_CMD, lost while busy, error while busy, write fails, time passes, OUT_OF_RANGE, ERASE_SEQ_ERROR, ILLEGAL_COMMAND)";
 
 /// Why the program ends without its answer.
 #[derive(Clone, Copy, Debug, PartialEq, Eq)]
@@ -69,16 +68,6 @@ pub enum Fault<'a> {
     OtherKind,
     /// What comes next in the run of a script is not allowed at the card.
     Wrong(WrongEvent),
-    /// No run that refutes a script was found, among so many that had so many mishaps at most. Then the search was ended, or it
-    /// had come to its end. Some card of the state tables may be known to break the script all the same.
-    NoRun {
-        runs: u64,
-        mishaps: u64,
-        ended: bool,
-        broken: bool,
-    },
-    /// No run that refutes a script was found, and no path of the state tables breaks the script.
-    NoPath,
     /// A request in lines was not answered.
     Request(ServeFault),
     /// The other side of the lines could not be asked, or gave no answer.
@@ -87,7 +76,7 @@ pub enum Fault<'a> {
     Named,
     /// A line of the schedule by name had no effect on a run that came to its end.
     NoEffect,
-    /// An audit or a review found something; its report says what.
+    /// An audit or a verdict found something; its report says what.
     Found,
     /// Standard output took not all of the answer.
     Output,
@@ -145,20 +134,6 @@ impl<'a> From<VerifyFault> for Fault<'a> {
             VerifyFault::Certificate(fault) => Fault::Certificate(fault),
             VerifyFault::Check(fault) => Fault::Refused(fault),
             VerifyFault::Memory => Fault::Memory,
-        }
-    }
-}
-
-impl<'a> From<ReviewFault> for Fault<'a> {
-    ghost use Rattle.sdv_program.specs.Fault.{fault_of_review};
-
-    ghost from_gives = { λ fault f. f ≡ fault_of_review fault };
-
-    fn from(fault: ReviewFault) -> Fault<'a> {
-        match fault {
-            ReviewFault::Script(fault) => Fault::Script(fault),
-            ReviewFault::Refused(fault) => Fault::from(fault),
-            ReviewFault::Memory => Fault::Memory,
         }
     }
 }
@@ -281,7 +256,7 @@ impl<'a> Fault<'a> {
                 1,
             Fault::Trace(_) | Fault::Stray(_) | Fault::Found | Fault::OtherKind | Fault::Wrong(_) =>
                 1,
-            Fault::NoRun { .. } | Fault::Schedule(_) | Fault::NoPath | Fault::NoEffect => 1,
+            Fault::Schedule(_) | Fault::NoEffect => 1,
             Fault::Usage
             | Fault::File(_)
             | Fault::Request(_)
@@ -292,7 +267,7 @@ impl<'a> Fault<'a> {
     }
 
     /// Says on a line what is wrong, but nothing of a failed output, nor of a fault that the trace of a run says, nor of what
-    /// an audit or a review found.
+    /// an audit or a verdict found.
     ///
     /// # Errors
     ///
@@ -326,8 +301,6 @@ impl<'a> Fault<'a> {
             | Fault::Schedule(_)
             | Fault::OtherKind
             | Fault::Wrong(_)
-            | Fault::NoRun { .. }
-            | Fault::NoPath
             | Fault::NoEffect
             | Fault::Request(_)
             | Fault::Unanswered(_) => say_to_people(self, err),
@@ -514,12 +487,6 @@ fn say_to_people<E: Write>(fault: Fault<'_>, err: &mut E) -> io::Result<()>
         Fault::Wrong(event) => return say_wrong(event, err),
         Fault::Request(stop) => return say_serve(&stop, err),
         Fault::Unanswered(stop) => return say_ask(&stop, err),
-        Fault::NoRun {
-            runs,
-            mishaps,
-            ended,
-            broken,
-        } => return say_no_run(runs, mishaps, ended, broken, err),
         Fault::Wide(Part::Point(point)) => ("refused Wide", " point ", point as u64),
         Fault::Trace(TraceFault::Line { fault, line }) => {
             ("trace fault ", line_fault_name(fault), line)
@@ -548,7 +515,6 @@ fn plain_words(fault: Fault<'_>) -> &'static str {
         Fault::Usage => USAGE,
         Fault::OtherKind => "the script is for another kind of card",
         Fault::NoEffect => "a line of the schedule had no effect",
-        Fault::NoPath => "no run found (no path of the state tables breaks the script)",
         Fault::Schedule(ScheduleFault::Many) => "schedule fault: more than 64 mishaps",
         Fault::Trace(TraceFault::Read) => "the trace could not be read",
         Fault::Trace(TraceFault::Write) => "the report could not be written",
@@ -574,40 +540,6 @@ fn line_fault_name(fault: TraceLineFault) -> &'static str {
         TraceLineFault::End => "End line ",
         TraceLineFault::Lines => "Lines line ",
     }
-}
-
-fn say_no_run<E: Write>(
-    runs: u64,
-    mishaps: u64,
-    ended: bool,
-    broken: bool,
-    err: &mut E,
-) -> io::Result<()>
-    ensures { WritesSome (E.contents err.old) (E.contents err.new) result }
-{
-    let mut tried = Buffer::new();
-    let mut most = Buffer::new();
-    let of_runs = chosen(runs == 1, " run", " runs");
-    let of_mishaps = chosen(mishaps == 1, " mishap", " mishaps");
-    let end = chosen(ended, ", then the search was ended)", ")");
-    let by_some_card = chosen(
-        broken,
-        ", but a card of the state tables breaks the script\n",
-        "\n",
-    );
-    say_words(
-        &[
-            b"no run found (",
-            tried.format(runs).as_bytes(),
-            of_runs.as_bytes(),
-            b" of at most ",
-            most.format(mishaps).as_bytes(),
-            of_mishaps.as_bytes(),
-            end.as_bytes(),
-            by_some_card.as_bytes(),
-        ],
-        err,
-    )
 }
 
 fn chosen(holds: bool, words: &'static str, others: &'static str) -> &'static str {

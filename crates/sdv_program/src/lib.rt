@@ -38,8 +38,8 @@ pub use fault::Fault;
 pub use file::{MachineFiles, Store, bytes_in, bytes_within, text_in};
 pub use left::leave;
 pub use line::{
-    AuditLine, CardLine, DriveFiles, EmitWords, ExplainLine, Line, LineFault, RefuteFiles,
-    RunFiles, TryLine, VerifyWords, line_of,
+    AuditLine, CardLine, DriveFiles, EmitWords, ExplainLine, Line, LineFault, RunFiles, TryLine,
+    VerifyWords, line_of,
 };
 pub use mistake::{USAGE, usage_line};
 pub use output::print_text;

@@ -5,7 +5,7 @@ ghost use Rattle.clap.specs.Words.{fault_of, first_of, found_of, kind_of, rows_o
 ghost use Rattle.clap.specs.Walk.{texts};
 ghost use Rattle.sdv_program.specs.CommandLine.{command_line, meaning_of};
 ghost use Rattle.sdv_program.specs.Lines.{by_audit_words, by_card_words, by_explain_words, by_try_words, is_set, line_in, seen_line};
-ghost use Rattle.sdv_program.specs.Lines.{by_drive_words, by_emit_words, by_refute_words, by_review_words, by_run_words, by_script, by_two_words, by_verify_words, other_line_in, words_of};
+ghost use Rattle.sdv_program.specs.Lines.{by_drive_words, by_emit_words, by_run_words, by_script, by_two_words, by_verify_words, other_line_in, words_of};
 ghost use Rattle.sdv_program.specs.Requests.{batch, certify, check, frame};
 
 use crate::clap_command::program_command;
@@ -50,15 +50,8 @@ pub enum Line<'a> {
     Drive(DriveFiles<'a>),
     /// A card that answers such lines, or what its description says.
     Card(CardLine<'a>),
-    /// What a script leaves open for the data.
-    Review {
-        script: &'a str,
-        json: bool,
-    },
     /// Runs of any script beside a simulated card.
     Try(TryLine<'a>),
-    /// The search for a run that refutes a script.
-    Refute(RefuteFiles<'a>),
 }
 
 /// The words of a verdict on scripts.
@@ -144,18 +137,12 @@ pub struct TryLine<'a> {
     pub output: Option<&'a str>,
     /// There is a run with each mishap.
     pub each: bool,
+    /// Of these the runs alone are told that end so.
+    pub only: Option<&'a str>,
+    /// They are told as JSON.
+    pub json: bool,
     /// The trace says where the host changes its data lines.
     pub lines: bool,
-}
-
-/// The names of the files of a search for a run that refutes a script.
-#[derive(Clone, Copy)]
-pub struct RefuteFiles<'a> {
-    pub script: &'a str,
-    /// Where the description of the card goes. Without it it is only printed.
-    pub description: Option<&'a str>,
-    /// Where the schedule goes. Without it it is only printed.
-    pub schedule: Option<&'a str>,
 }
 
 /// The words of an explanation, or of a drawing.
@@ -265,9 +252,7 @@ fn other_line_in<'a>(name: &str, matches: &ArgMatches<'a>) -> Option<Line<'a>>
         ("audit", matches) => audit_in(matches),
         ("drive", matches) => drive_in(matches),
         ("card", matches) => card_in(matches),
-        ("review", matches) => review_in(matches),
         ("try", matches) => try_in(matches),
-        ("refute", matches) => refute_in(matches),
         _ => None,
     }
 }
@@ -443,14 +428,6 @@ fn card_in<'a>(matches: &ArgMatches<'a>) -> Option<Line<'a>>
     }))
 }
 
-fn review_in<'a>(matches: &ArgMatches<'a>) -> Option<Line<'a>>
-    ensures { option_map seen_line result ≡ by_review_words (rows_of (found_of matches.now)) }
-{
-    let script = word_in(matches, "SCRIPT")?;
-    let json = is_set(matches, "json");
-    Some(Line::Review { script, json })
-}
-
 fn try_in<'a>(matches: &ArgMatches<'a>) -> Option<Line<'a>>
     ensures { option_map seen_line result ≡ by_try_words (rows_of (found_of matches.now)) }
 {
@@ -465,17 +442,8 @@ fn try_in<'a>(matches: &ArgMatches<'a>) -> Option<Line<'a>>
         input: word_in(matches, "in"),
         output: word_in(matches, "out"),
         each: is_set(matches, "each"),
+        only: word_in(matches, "only"),
+        json: is_set(matches, "json"),
         lines: is_set(matches, "lines"),
-    }))
-}
-
-fn refute_in<'a>(matches: &ArgMatches<'a>) -> Option<Line<'a>>
-    ensures { option_map seen_line result ≡ by_refute_words (rows_of (found_of matches.now)) }
-{
-    let script = word_in(matches, "SCRIPT")?;
-    Some(Line::Refute(RefuteFiles {
-        script,
-        description: word_in(matches, "card"),
-        schedule: word_in(matches, "schedule"),
     }))
 }

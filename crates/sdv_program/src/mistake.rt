@@ -50,6 +50,8 @@ fn no_command<'a>(name: &'a str, words: &[&'a str]) -> Pieces<'a> {
         ("sweep", _) => ("sdv sweep: now sdv try --each", "", "", ""),
         ("describe", _) => ("sdv describe: now sdv card --describe", "", "", ""),
         ("decode", _) => ("sdv decode: now sdv audit --script", "", "", ""),
+        ("review", _) => ("sdv review: now sdv verify", "", "", ""),
+        ("refute", _) => ("sdv refute: now sdv verify --save DIR", "", "", ""),
         ("print", _) => (
             "sdv print: now a call of the library, print of sdv_script",
             "",
@@ -162,7 +164,10 @@ fn clash(command: &str, words: &[&str]) -> &'static str {
         "audit" => "--registers and --svg need --script",
         "card" if has(b"describe") => "--describe takes CARD and SCHEDULE alone",
         "card" => "IMAGE is missing",
-        "try" => "--each goes with neither SCHEDULE, --out nor --lines",
+        "try" if has(b"each") && has(b"only") =>
+            "--only takes the word wrong, and --each no SCHEDULE, --out or --lines",
+        "try" if has(b"each") => "--each goes with neither SCHEDULE, --out nor --lines",
+        "try" => "--only and --json need --each",
         "emit" => "NAME is a keyword or a reserved name of C",
         "batch" => "REQUESTS are not read FIRST COUNT and write FIRST COUNT",
         _ => "a word does not fit",

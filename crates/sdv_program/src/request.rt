@@ -4,11 +4,11 @@ ghost use Rattle.clap.specs.Walk.{texts};
 ghost use Rattle.sdv_program.specs.CommandLine.{request_of_words};
 ghost use Rattle.sdv_program.specs.Lines.{audit_line_of, card_line_of, explain_line_of, seen_line, try_line_of};
 ghost use Rattle.sdv_program.specs.Requests.{seen};
-ghost use Rattle.sdv_program.specs.Together.{audit_request, card_request, explain_request, request_of, try_request};
+ghost use Rattle.sdv_program.specs.Together.{attempt_request, audit_request, card_request, explain_request, only_wrong_by, request_of, sweep_request, try_request};
 
 use crate::line::{
-    AuditLine, CardLine, DriveFiles, EmitWords, ExplainLine, Line, LineFault, RefuteFiles,
-    RunFiles, TryLine, VerifyWords, line_of,
+    AuditLine, CardLine, DriveFiles, EmitWords, ExplainLine, Line, LineFault, RunFiles, TryLine,
+    VerifyWords, line_of,
 };
 use std::alloc::Global;
 
@@ -57,17 +57,10 @@ pub enum Request<'a> {
         card: &'a str,
         schedule: Option<&'a str>,
     },
-    /// What the script in this file leaves open for the data, as JSON or in words.
-    Review {
-        script: &'a str,
-        json: bool,
-    },
     /// The run of the script in these files, which has no certificate, beside a simulated card.
     Try(TryFiles<'a>),
     /// All runs of the script in these files with one mishap.
     Sweep(SweepFiles<'a>),
-    /// The search for a run that refutes the script in this file.
-    Refute(RefuteFiles<'a>),
 }
 
 /// The words of an explanation.
@@ -156,6 +149,10 @@ pub struct SweepFiles<'a> {
     pub image: &'a str,
     /// The blocks that the script gives. Without it there are none.
     pub input: Option<&'a str>,
+    /// The runs alone are told that come to what is not allowed at the card.
+    pub only_wrong: bool,
+    /// They are told as JSON.
+    pub json: bool,
 }
 
 /// Reads what the words ask for that the program is called with, without the program's own name.
@@ -193,9 +190,7 @@ pub fn request_in<'a>(line: Line<'a>) -> Option<Request<'a>>
         Line::Audit(words) => audit_request(words),
         Line::Drive(files) => Some(Request::Drive(files)),
         Line::Card(words) => card_request(words),
-        Line::Review { script, json } => Some(Request::Review { script, json }),
         Line::Try(words) => try_request(words),
-        Line::Refute(files) => Some(Request::Refute(files)),
     }
 }
 
@@ -274,36 +269,60 @@ fn card_request<'a>(words: CardLine<'a>) -> Option<Request<'a>>
     }
 }
 
-/// Runs with each mishap have their own schedules, and no output or trace.
+/// A run with a schedule, or each with one mishap.
 fn try_request<'a>(words: TryLine<'a>) -> Option<Request<'a>>
     ensures { option_map seen result ≡ try_request (try_line_of words.entry) }
 {
-    let TryLine {
-        script,
-        card,
-        image,
-        schedule,
-        input,
-        output,
-        each,
-        lines,
-    } = words;
-    match (each, schedule, output) {
-        (false, _, _) => Some(Request::Try(TryFiles {
-            script,
-            card,
-            image,
-            schedule,
-            input,
-            output,
-            lines,
-        })),
-        (true, None, None) if !lines => Some(Request::Sweep(SweepFiles {
-            script,
-            card,
-            image,
-            input,
-        })),
-        _ => None,
+    if words.each {
+        sweep_request(words)
+    } else {
+        attempt_request(words)
     }
+}
+
+/// Runs with each mishap have their own schedules, and no output or trace.
+fn sweep_request<'a>(words: TryLine<'a>) -> Option<Request<'a>>
+    ensures { option_map seen result ≡ sweep_request (try_line_of words.entry) }
+{
+    if words.lines || words.schedule.is_some() || words.output.is_some() {
+        return None;
+    }
+    let only_wrong = only_wrong_in(words.only)?;
+    Some(Request::Sweep(SweepFiles {
+        script: words.script,
+        card: words.card,
+        image: words.image,
+        input: words.input,
+        only_wrong,
+        json: words.json,
+    }))
+}
+
+/// The runs alone are told that come to what is not allowed, where the word for these is given. There is no other such word.
+fn only_wrong_in(word: Option<&str>) -> Option<bool>
+    ensures { result ≡ only_wrong_by (option_map (λ given. given.now) word.entry) }
+{
+    match word {
+        None => Some(false),
+        Some(word) if word == "wrong" => Some(true),
+        Some(_) => None,
+    }
+}
+
+/// A single run has a trace, and no table.
+fn attempt_request<'a>(words: TryLine<'a>) -> Option<Request<'a>>
+    ensures { option_map seen result ≡ attempt_request (try_line_of words.entry) }
+{
+    if words.json || words.only.is_some() {
+        return None;
+    }
+    Some(Request::Try(TryFiles {
+        script: words.script,
+        card: words.card,
+        image: words.image,
+        schedule: words.schedule,
+        input: words.input,
+        output: words.output,
+        lines: words.lines,
+    }))
 }

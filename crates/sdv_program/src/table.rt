@@ -59,7 +59,7 @@ const KIND: Word = Word::Required("KIND", "sd or emmc");
 const JSON: Word = Word::Flag("json", "prints an object of JSON a line");
 
 /// The commands of the program, in the order in which `--help` names them.
-pub static COMMANDS: [CommandEntry; 14] = [
+pub static COMMANDS: [CommandEntry; 12] = [
     CommandEntry {
         name: "frame",
         words: &[
@@ -210,11 +210,6 @@ pub static COMMANDS: [CommandEntry; 14] = [
         help: "answers such requests by a simulated card",
     },
     CommandEntry {
-        name: "review",
-        words: &[SCRIPT, JSON],
-        help: "prints what an accepted script leaves open for the data",
-    },
-    CommandEntry {
         name: "try",
         words: &[
             SCRIPT,
@@ -227,24 +222,17 @@ pub static COMMANDS: [CommandEntry; 14] = [
             IN,
             OUT,
             Word::Flag("each", "prints how each run with one mishap ends"),
+            Word::WithValue(
+                "only",
+                "wrong",
+                "of these runs those alone that come to what is not allowed",
+            ),
+            JSON,
             Word::Flag(
                 "lines",
                 "the trace says where the host changes its data lines",
             ),
         ],
         help: "runs any script beside a simulated card, and stops before what is not allowed there",
-    },
-    CommandEntry {
-        name: "refute",
-        words: &[
-            SCRIPT,
-            Word::WithValue(
-                "card",
-                "FILE",
-                "the file that takes the description of the card",
-            ),
-            Word::WithValue("schedule", "FILE", "the file that takes the schedule"),
-        ],
-        help: "looks for a run that shows that a script is refused",
     },
 ];
