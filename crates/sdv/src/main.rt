@@ -10,7 +10,7 @@ mod stream_tests;
 
 use sdv_commands::progress::{Below, Counted, Progress};
 use sdv_commands::start::start;
-use sdv_lines::LinePort;
+use sdv_lines::{LinePort, Quieted};
 use sdv_program::Fault;
 use std::fs;
 use std::io::{self, BufReader, BufWriter, IsTerminal, Stdin, Stdout};
@@ -33,9 +33,11 @@ fn main(rt: HostRuntime) -> ExitCode {
         inner: rt.stderr(),
         progress: &progress,
     };
+    let most_skipped = if is_drive(&words) { MOST_SKIPPED } else { 0 };
     let status = match line_streams(&rt) {
         Ok((reader, writer)) => {
-            let mut lines = LinePort::new(reader, writer);
+            let answers = Quieted::new(reader, rt.stderr(), most_skipped);
+            let mut lines = LinePort::new(answers, writer);
             start(&rt, words, &mut lines, &mut out, &mut err)
         }
         Err(_) => Fault::Memory.report(&mut err),
@@ -46,6 +48,17 @@ fn main(rt: HostRuntime) -> ExitCode {
 
 /// As many bytes of lines are read or written at a time: as many as a pipe holds.
 const LINE_BUFFER: usize = 65_536;
+
+/// So many lines may a board write before the first answer to `drive`.
+const MOST_SKIPPED: u16 = 1000;
+
+// Whether the command is the one that reads answers.
+fn is_drive(words: &io::Result<Vec<String>>) -> bool {
+    match words {
+        Ok(words) => words.len() > 1 && words.as_slice()[1].as_str() == "drive",
+        Err(_) => false,
+    }
+}
 
 // The standard streams in buffers, for the commands that speak in lines.
 fn line_streams(rt: &HostRuntime) -> io::Result<(BufReader<Stdin>, BufWriter<Stdout>)> {

@@ -2,11 +2,10 @@
 use Rattle.std.proofs.Common.{subst, ◌≡◌, ◌≢◌, ◌∙◌, inl, inr, refl, sym, ap, ℕ, IfErr, IsErrAnd, List, OnOk, Option, Result, Ok, Err, Some, None, false}
 use Rattle.std.specs.Io.KnownBytes.{Keeps}
 use Rattle.clap.specs.Words.{Text}
-use Rattle.sdv_commands.specs.Refute.{IsTold, RefuteEnds, Untold}
 use Rattle.sdv_commands.specs.Sweep.{ImageEnds, InputEnds}
 use Rattle.sdv_commands.specs.Try.{TryEnds}
 use Rattle.sdv_commands.specs.Run.{RunEnds}
-use Rattle.sdv_program.specs.Requests.{CardNames, EmitNames, RefuteNames, RunNames, SweepNames, TryNames, Request, verify, frame, certify, check, run, batch, explain, graph, emit, audit, decode, drive, serve, describe, review, attempt, sweep, refute}
+use Rattle.sdv_program.specs.Requests.{CardNames, EmitNames, RunNames, SweepNames, TryNames, Request, verify, frame, certify, check, run, batch, explain, graph, emit, audit, decode, drive, serve, describe, attempt, sweep}
 use Rattle.sdv_program.specs.CommandLine.{request_of_words}
 use Rattle.sdv_program.specs.declared.line.LineFault.{LineFault}
 use Rattle.sdv_program.specs.declared.line.LineFault.TheVariants as requests
@@ -30,7 +29,6 @@ use Rattle.sdv_commands.specs.Given.{OverGiven}
 use Rattle.sdv_commands.specs.Explain.{ExplainsText, HasNoAnswer, IsJudgement}
 use Rattle.sdv_commands.specs.Frame.{IsFrameText, WriteNone}
 use Rattle.sdv_commands.specs.Graph.{IsDrawing, IsUndrawn}
-use Rattle.sdv_commands.specs.Review.{IsReview}
 use Rattle.sdv_commands.specs.Ends.{AreQuiet, AreWhole, EndsRequest, EndsWords, IsQuiet, IsWhole, exit_status, for_memory, for_nothing, for_page, for_request}
 
 module _ (files : Files) (s s' : Streams) (before after : Option (List ℕ)) where
@@ -48,20 +46,8 @@ module _ (files : Files) (s s' : Streams) (before after : Option (List ℕ)) whe
       over-kept before after files names.script (λ (script : Text). OverText files names.certificate (TableEnds files names script)) (Some Memory)
       (λ script. over-kept before after files names.certificate (TableEnds files names script) (Some Memory) (λ certificate kept. kept)) apart.1
 
-  refute-kept : (names : RefuteNames) (fault : Fault) → fault ≢ Output → RefuteEnds files names (Some fault) before after → Keeps before after
-  refute-kept names fault other (inl taken) = taken.1
-  refute-kept names fault other (inr apart) =
-      over-kept before after files names.script (λ (text : Text). Prints (IsTold files names text) (Untold files names text)) (Some fault)
-      (λ text. prints-kept before after (IsTold files names text) (Untold files names text) fault other) apart.1
-
-  refute-memory : (names : RefuteNames) → RefuteEnds files names (Some Memory) before after → Keeps before after
-  refute-memory names (inl taken) = taken.1
-  refute-memory names (inr apart) =
-      over-kept before after files names.script (λ (text : Text). Prints (IsTold files names text) (Untold files names text)) (Some Memory)
-      (λ text kept. kept) apart.1
-
   -- a request that is refused prints nothing, but a run with or without a certificate, an explanation, a drawing, an audit, the
-  -- page of a description, a review and a sweep
+  -- page of a description and a sweep
   quiet-kept : (request : Request) → IsQuiet request → (fault : Fault) → fault ≢ Output → EndsRequest files s s' request (Some fault) before after
       → Keeps before after
   quiet-kept (verify names) quiet fault other ends = absurd quiet
@@ -85,9 +71,7 @@ module _ (files : Files) (s s' : Streams) (before after : Option (List ℕ)) whe
   quiet-kept (describe card schedule) quiet fault other ends = absurd quiet
   quiet-kept (drive names) quiet fault other ends = ends.1
   quiet-kept (serve names) quiet fault other ends = ends.1
-  quiet-kept (review script json) quiet fault other ends = absurd quiet
   quiet-kept (attempt names) quiet fault other ends = absurd quiet
-  quiet-kept (refute names) quiet fault other ends = refute-kept names fault other ends.1
   quiet-kept (sweep names) quiet fault other ends = absurd quiet
   quiet-kept (decode names) quiet fault other ends = absurd quiet
 
@@ -146,10 +130,7 @@ module _ (files : Files) (s s' : Streams) (before after : Option (List ℕ)) whe
       (λ text. given-memory schedule (λ given. Reports (IsPageOf text given) HasNoPage) (λ given kept. kept)) ends.1
   memory-kept (drive names) whole ends = ends.1
   memory-kept (serve names) whole ends = ends.1
-  memory-kept (review script json) whole ends =
-      over-kept before after files script (λ (text : Text). Reports (IsReview text json) (HasNone text)) (Some Memory) (λ text kept. kept) ends.1
   memory-kept (attempt names) whole ends = try-memory names ends.1
-  memory-kept (refute names) whole ends = refute-memory names ends.1
   memory-kept (sweep names) whole ends =
       over-kept before after files names.script (λ (script : Text). OverText files names.card (ImageEnds files names script)) (Some Memory)
       (λ script. over-kept before after files names.card (ImageEnds files names script) (Some Memory) (image-memory names script)) ends.1

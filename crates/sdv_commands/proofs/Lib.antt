@@ -10,7 +10,6 @@ mod ExplainLaws
 mod FrameTextLaws
 mod GraphLaws
 mod ReportLaws
-mod ReviewLaws
 mod ScriptFaultLaws
 pub mod AskedLaws
 pub mod BesideLaws
@@ -27,5 +26,5 @@ pub mod ServedMaps
 pub mod TakenLaws
 pub mod TalkLaws
 pub mod TryLaws
-pub mod UntriedLaws
+pub mod SweepLaws
 mod VerifyLaws

@@ -4,14 +4,13 @@ use Rattle.std.specs.Prelude.{◌≡◌, ◌⊎◌, ℕ, true, false, List, Opti
 use Rattle.std.specs.Io.KnownBytes.{Keeps}
 use Rattle.clap.specs.Words.{Text}
 use Rattle.sdv_program.specs.CommandLine.{request_of_words}
-use Rattle.sdv_program.specs.Requests.{Request, verify, frame, certify, check, run, batch, explain, graph, emit, audit, decode, drive, serve, describe, review, attempt, sweep, refute}
+use Rattle.sdv_program.specs.Requests.{Request, verify, frame, certify, check, run, batch, explain, graph, emit, audit, decode, drive, serve, describe, attempt, sweep}
 use Rattle.sdv_program.specs.Fault.{Says, status_of}
 use Rattle.sdv_program.specs.declared.fault.Fault.{Fault}
 use Rattle.sdv_program.specs.declared.fault.Fault.TheVariants.{Usage, Memory}
 use Rattle.sdv_program.specs.Files.{Files}
 use Rattle.sdv_program.specs.Outcomes.{Ending}
 use Rattle.sdv_lines.specs.Streams.{Streams}
-use Rattle.sdv_commands.specs.Refute.{RefuteEnds}
 use Rattle.sdv_commands.specs.Sweep.{SweepEnds}
 use Rattle.sdv_commands.specs.Try.{TryEnds}
 use Rattle.sdv_commands.specs.Run.{RunEnds}
@@ -28,7 +27,6 @@ use Rattle.sdv_commands.specs.Explain.{ExplainEnds}
 use Rattle.sdv_commands.specs.Frame.{FrameEnds}
 use Rattle.sdv_commands.specs.Graph.{GraphEnds}
 use Rattle.sdv_commands.specs.Page.{PrintsPage, asks_page}
-use Rattle.sdv_commands.specs.Review.{ReviewEnds}
 use Rattle.sdv_commands.specs.Verify.{VerifyEnds}
 
 -- REQUESTS, command by command
@@ -55,14 +53,12 @@ EndsRequest files s s' (audit names) = KeepsLines s s' (AuditEnds files names)
 EndsRequest files s s' (describe card schedule) = KeepsLines s s' (DescribeEnds files card schedule)
 EndsRequest files s s' (drive names) = Speaks (DriveEnds files names s s')
 EndsRequest files s s' (serve names) = Speaks (CardEnds files names s.answers s'.answers s.requests s'.requests)
-EndsRequest files s s' (review script json) = KeepsLines s s' (ReviewEnds files script json)
 EndsRequest files s s' (attempt names) = KeepsLines s s' (TryEnds files names)
-EndsRequest files s s' (refute names) = KeepsLines s s' (RefuteEnds files names)
 EndsRequest files s s' (sweep names) = KeepsLines s s' (SweepEnds files names)
 EndsRequest files s s' (decode names) = KeepsLines s s' (DecodeEnds files names)
 
 -- Nothing is printed where the command is refused. A run with or without a certificate, an explanation, a drawing, the
--- report of an audit, the lines of a trace, the page of a card description, a review and the table of all runs with one mishap
+-- report of an audit, the lines of a trace, the page of a card description and the table of all runs with one mishap
 -- are printed then too.
 abbrev pub IsQuiet : Request → Type 0
 IsQuiet (verify names) = ⊥
@@ -71,7 +67,6 @@ IsQuiet (explain names) = ⊥
 IsQuiet (graph names) = ⊥
 IsQuiet (audit names) = ⊥
 IsQuiet (describe card schedule) = ⊥
-IsQuiet (review script json) = ⊥
 IsQuiet (attempt names) = ⊥
 IsQuiet (sweep names) = ⊥
 IsQuiet (decode names) = ⊥

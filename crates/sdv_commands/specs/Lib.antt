@@ -16,10 +16,8 @@ pub mod Given
 pub mod Graph
 pub mod NewImages
 pub mod Page
-pub mod Refute
 pub mod Registers
 pub mod Report
-pub mod Review
 pub mod Run
 pub mod RunImages
 pub mod Schedules

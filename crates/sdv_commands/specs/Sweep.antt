@@ -1,4 +1,4 @@
--- `try --each SCRIPT CARD IMAGE [--in FILE]`: how each run with one mishap ends, of the script of a file.
+-- `try --each SCRIPT CARD IMAGE [--in FILE] [--only wrong] [--json]`: how each run with one mishap ends, of the script of a file.
 use Rattle.std.specs.Prelude.{◌≡◌, ◌⊎◌, ◌*◌, ℕ, List, Option, Some, None, replicate}
 use Rattle.std.specs.Borrow.{Bor}
 use Rattle.std.specs.Io.KnownBytes.{Keeps}
@@ -6,7 +6,7 @@ use Rattle.clap.specs.Words.{Text}
 use Rattle.sdv_card.specs.Card.{Block}
 use Rattle.sdv_refute.specs.declared.simulated.TryFault.{TryFault}
 use Rattle.sdv_search.specs.Swept.{IsSweep, NotSwept}
-use Rattle.sdv_search.specs.Table.{IsTable, fails}
+use Rattle.sdv_search.specs.Table.{fails}
 use Rattle.sdv_search.specs.declared.sweeping.SweepTable.{SweepTable}
 use Rattle.sdv_program.specs.Requests.{SweepNames}
 use Rattle.sdv_program.specs.Fault.{fault_of_try}
@@ -45,12 +45,11 @@ Over Missing Gives Ends outcome before after =
 
 -- THE TABLE
 
--- The text is that of the table of all runs with one mishap. It is reported where one of them, or the run without a mishap,
--- comes to what is not allowed at the card, or where the run without a mishap is stopped.
+-- All runs with one mishap were made; the text tells of them, in whichever words. It is reported where one of them, or the run
+-- without a mishap, comes to what is not allowed at the card, or where the run without a mishap is stopped.
 abbrev pub IsSwept : (script card image : Text) → (input : List Block) → (told : Option Fault) → (text : Text) → Type 0
 IsSwept script card image input told text =
     (s : SweepTable) × IsSweep script card image input s × (told ≡ found_if (fails s))
-    × IsTable s text
 
 -- why no run was made
 abbrev pub IsUnswept : (script card image : Text) → Fault → Type 0

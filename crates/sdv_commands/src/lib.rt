@@ -16,11 +16,9 @@
 //! - `check` prints `accepted` and a bound only where each run of the script is as the headline says. `certify` prints
 //!   only the script's own certificate. `explain` may show a run only where that run refutes the script.
 //! - `try` stops before what is not allowed, and the line on standard error has the reason; such a run refutes the
-//!   script (`specs/Try.antt`). `refute` prints only what is told of a run that refutes the script, or of a path of
-//!   the state tables that breaks it. `try --each` has a row for each event.
+//!   script (`specs/Try.antt`). `try --each` has a row for each event.
 //! - `verify` ends well exactly where each file gave a script that is accepted, of which nothing counts.
-//! - `review` and `audit` end well exactly where nothing was found. `batch` prints only the text of the requests.
-//!   `emit` prints the table of the accepted script, once the file of `--binary` took its words.
+//! - `audit` ends well exactly where nothing was found. `batch` prints only the text of the requests. `emit` prints the table of the accepted script, once the file of `--binary` took its words.
 //! - No command opens a file where an output is one of its other files, by what the store says of two names.
 #![tactic(auto)]
 
@@ -45,10 +43,8 @@ pub mod new_image;
 pub mod page;
 pub mod program;
 pub mod progress;
-mod refutation;
 mod registers;
 mod report;
-pub mod review;
 mod run;
 mod schedules;
 pub mod start;

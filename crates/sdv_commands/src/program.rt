@@ -23,8 +23,6 @@ use crate::explain::explain_file;
 use crate::frame::print_frame;
 use crate::graph::graph_file;
 use crate::page::{page_of, print_page};
-use crate::refutation::refute_file;
-use crate::review::review_file;
 use crate::run::run_files;
 use crate::sweeping::sweep_files;
 use crate::verify::verify_files;
@@ -229,9 +227,7 @@ pub fn answer_request<'a, S: Store, I: Read, L: Write, O: Write>(
         Request::Card(names) => {
             serve_card(alloc, files, names, &mut lines.reader, &mut lines.writer)
         }
-        Request::Review { script, json } => review_file(alloc, files, script, json, out),
         Request::Try(names) => try_files(alloc, files, names, out, notes),
-        Request::Refute(names) => refute_file(alloc, files, names, out),
         Request::Sweep(names) => sweep_files(alloc, files, names, out),
         Request::Decode(words) => decode_files(alloc, files, words, out),
     }

@@ -1,4 +1,4 @@
-//! `try --each SCRIPT CARD IMAGE [--in FILE]`: every run of a script with one mishap.
+//! `try --each SCRIPT CARD IMAGE [--in FILE] [--only wrong] [--json]`: every run of a script with one mishap.
 ghost use Rattle.std.specs.Prelude.{IfErr, IfOk};
 ghost use Rattle.sdv_program.specs.Requests.{sweep_names_of};
 ghost use Rattle.sdv_program.specs.Outcomes.{Reports, outcome_of};
@@ -7,7 +7,7 @@ ghost use Rattle.sdv_commands.specs.Sweep.{GivesBytes, HasNoBytes, IsSwept, IsUn
 use crate::given::{input_in, new_blocks};
 use crate::report::{found_if, print_report};
 use sdv_program::{Fault, Store, SweepFiles, bytes_in, text_in};
-use sdv_search::{SweepGiven, fails, put_table, sweep};
+use sdv_search::{SweepGiven, TableForm, fails, sweep, table_text};
 use std::alloc::Global;
 use std::io::Write;
 
@@ -39,7 +39,11 @@ pub fn sweep_files<'a, S: Store, O: Write>(
         image: image.as_slice(),
         input,
     };
-    sweep_given(alloc, &given, out)
+    let form = TableForm {
+        json: names.json,
+        only_wrong: names.only_wrong,
+    };
+    sweep_given(alloc, &given, form, out)
 }
 
 /// The bytes of the image of a file, or zeros where the name asks for a new one.
@@ -69,6 +73,7 @@ fn image_bytes_in<'a, S: Store>(
 fn sweep_given<O: Write>(
     alloc: Global,
     given: &SweepGiven<'_>,
+    form: TableForm,
     out: &mut O,
 ) -> Result<(), Fault<'static>>
     ensures { Reports (IsSwept given.now.script.now given.now.card.now given.now.image.now given.now.input.now)
@@ -76,6 +81,6 @@ fn sweep_given<O: Write>(
         (outcome_of result) (O.contents out.old) (O.contents out.new) }
 {
     let table = sweep(alloc, given)?;
-    let text = put_table(alloc, &table)?;
+    let text = table_text(alloc, &table, form)?;
     print_report(&text, found_if(fails(&table)), out)
 }

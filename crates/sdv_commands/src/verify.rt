@@ -7,20 +7,12 @@ ghost use Rattle.sdv_commands.specs.Report.{found_if};
 ghost use Rattle.sdv_commands.specs.Verify.{IsToldOf, IsUnsaved, VerifyEnds, is_file, worse};
 
 use crate::report::print_report;
-use itoa::Buffer;
 use sdv_named_schedules::schedule_text;
 use sdv_program::{Fault, Store, VerifyWords, leave, text_in};
 use sdv_search::Refutation;
-use sdv_verdict::{Allowed, Form, Runs, tell, tell_unread};
-use std::alloc::{AllocError, Global};
+use sdv_verdict::{Allowed, Form, RunNames, Runs, run_names, tell, tell_unread};
+use std::alloc::Global;
 use std::io::Write;
-
-/// The names of the files that take what a run needs.
-#[derive(Drop)]
-struct RunNames {
-    card: String,
-    schedule: String,
-}
 
 /// Prints the verdicts on the scripts of files, in their order. A file that cannot be used is named, and the others are judged.
 /// Where a folder is named, it first takes the card and the schedule of each run that breaks a script.
@@ -77,16 +69,14 @@ fn verify_file<'a, S: Store>(
             return Ok(Some(fault));
         }
     };
-    let names = run_names(alloc, words, *saved)?;
     let allowed = Allowed {
         text: text.as_str(),
         kinds: &words.allowed,
     };
-    let told = tell(alloc, file, allowed, runs_of(words, &names), form)?;
+    let told = tell(alloc, file, allowed, runs_of(words, *saved), form)?;
     page.extend_from_slice(&told.page)?;
-    if let (Some(run), Some(folder)) = (&told.run, words.save) {
-        save_run(alloc, files, words, &names, run, folder)?;
-        *saved = saved.saturating_add(1);
+    if let Some(folder) = words.save {
+        save_runs(alloc, files, words, &told.runs, folder, saved)?;
     }
     Ok(fault_if(!told.is_clear))
 }
@@ -98,38 +88,36 @@ fn fault_if<'a>(is_found: bool) -> Option<Fault<'a>>
     if is_found { Some(Fault::Found) } else { None }
 }
 
-/// The names of the files for the next run, in the folder that is named: its number, and what it is.
-fn run_names(alloc: Global, words: &VerifyWords<'_>, saved: u64) -> Result<RunNames, AllocError> {
-    let number = saved.saturating_add(1);
-    let folder = words.save.unwrap_or("");
-    Ok(RunNames {
-        card: file_name(alloc, folder, number, ".card")?,
-        schedule: file_name(alloc, folder, number, ".schedule")?,
-    })
+/// Which runs are looked for, where so many were saved before.
+fn runs_of<'a>(words: &VerifyWords<'a>, before: u64) -> Runs<'a> {
+    match words.save {
+        _ if words.no_run => Runs::Unsought,
+        Some(folder) => Runs::Saved { folder, before },
+        None => Runs::Sought,
+    }
 }
 
-/// The name of a file in a folder, by its number and its ending.
-fn file_name(alloc: Global, folder: &str, number: u64, ending: &str) -> Result<String, AllocError> {
-    let mut digits = Buffer::new();
-    let mut name = String::new(alloc);
-    for piece in [folder, "/", digits.format(number), ending] {
-        name.push_str(piece)?;
+/// Writes the cards and the schedules of runs to their files in a folder, where so many were saved before.
+///
+/// # Errors
+///
+/// As for each of them.
+fn save_runs<'a, S: Store>(
+    alloc: Global,
+    files: &S,
+    words: &VerifyWords<'a>,
+    runs: &[Refutation],
+    folder: &'a str,
+    saved: &mut u64,
+) -> Result<(), Fault<'a>>
+    ensures { IfErr result (λ fault. (fault ≡ Fault.Memory) ⊎ (fault ≡ Fault.File folder.entry)) }
+{
+    for run in runs {
+        *saved = saved.saturating_add(1);
+        let names = run_names(alloc, folder, *saved)?;
+        save_run(alloc, files, words, &names, run, folder)?;
     }
-    Ok(name)
-}
-
-/// Which runs are looked for.
-fn runs_of<'n>(words: &VerifyWords<'_>, names: &'n RunNames) -> Runs<'n> {
-    if words.no_run {
-        Runs::Unsought
-    } else if words.save.is_some() {
-        Runs::Saved {
-            card: names.card.as_str(),
-            schedule: names.schedule.as_str(),
-        }
-    } else {
-        Runs::Sought
-    }
+    Ok(())
 }
 
 /// Writes the card and the schedule of a run to their files, neither of which is one of the scripts.

@@ -8,7 +8,7 @@ use Rattle.sdv_program.proofs.OutcomeLaws.{no_text}
 use Rattle.sdv_commands.specs.Run.{GivesInput, blocks_of}
 use Rattle.sdv_commands.proofs.RunLaws.{chunks_are_blocks}
 use Rattle.sdv_commands.specs.Sweep.{GivesBytes, ImageEnds, InputEnds, SweptEnds}
-use Rattle.sdv_commands.proofs.UntriedLaws.{no_image_bytes, no_input}
+use Rattle.sdv_commands.proofs.SweepLaws.{no_image_bytes, no_input}
 use Rattle.sdv_commands.proofs.sweeping.sweep_files.Goals as goal
 
 pub returns-in_err-script : goal.returns-in_err-script

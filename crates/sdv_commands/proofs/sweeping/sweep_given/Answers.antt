@@ -6,7 +6,7 @@ use Rattle.sdv_program.proofs.StartLaws.{keeps_same}
 use Rattle.sdv_commands.specs.Report.{found_if}
 use Rattle.sdv_commands.specs.Sweep.{IsSwept, IsUnswept}
 use Rattle.sdv_commands.proofs.ReportLaws.{reports}
-use Rattle.sdv_commands.proofs.UntriedLaws.{unswept}
+use Rattle.sdv_commands.proofs.SweepLaws.{unswept}
 use Rattle.sdv_commands.proofs.sweeping.sweep_given.Goals as goal
 
 pub returns-in_err-table : goal.returns-in_err-table
@@ -27,5 +27,5 @@ returns g c =
     let given = c.args.given.now in
     reports (IsSwept given.script.now given.card.now given.image.now given.input.now) (IsUnswept given.script.now given.card.now given.image.now)
     (g.O.Write.contents c.args.out.now) (g.O.Write.contents c.print_report.new.out) c.found_if.result c.in_ok-text.text.items _
-    c.found_if.ensures.can (c.in_ok-table.table, c.in_ok-table.ensures.swept, c.found_if.ensures.same ∙ ap found_if c.fails.ensures, c.in_ok-text.ensures)
+    c.found_if.ensures.can (c.in_ok-table.table, c.in_ok-table.ensures.swept, c.found_if.ensures.same ∙ ap found_if c.fails.ensures)
     (rw c.deref.ensures.value at c.print_report.ensures)
