@@ -4,8 +4,8 @@
 # A first look, in about two minutes on a new machine. It compiles the program without proving anything, and shows a script
 # that is refused, with the reason; the script with the mend, which gets a certificate and is accepted; and a run of it beside a
 # simulated card.
-# With SCRIPT it tells of that script instead: whether it is accepted, and then a run of it and what a review finds; or why it is
-# refused, and a run that breaks it. The status is that of `sdv certify`: 0 where it is accepted, 1 where it is not.
+# With SCRIPT it tells of that script instead: the verdict of `sdv verify`, whose status it has, and a run of it where it is
+# accepted.
 # `make build` proves the program.
 set -eu
 top=$(cd "$(dirname "$0")/.." && pwd)
@@ -57,29 +57,16 @@ if [ $# -gt 0 ]; then
     if grep -q '^card emmc' "$1"; then kind=emmc blocks=2048; fi
     card=examples/${kind}_block.card
     head -c 1048576 /dev/zero > "$zeros"
-    words 1 certify script.sdv
-    words 2 explain "--why script.sdv"
-    words 3 refute script.sdv
-    words 4 review script.sdv
-    words 5 try "script.sdv card new:$blocks --in zeros"
+    words 1 verify script.sdv
+    words 2 try "script.sdv card new:$blocks --in zeros"
     run_cases --data script.sdv="$(cd "$(dirname "$1")" && pwd)/$(basename "$1")" --data card="$top/$card" --data zeros="$zeros"
-    grep -q '^case=5 ' "$cases/said" || { cat "$cases/said"; exit 1; }
+    grep -q '^case=2 ' "$cases/said" || { cat "$cases/said"; exit 1; }
     verdict=$(status 1)
-    section "The verdict:" certify "$1"
-    if [ "$verdict" -eq 0 ]; then
-        echo "    accepted: it writes a certificate, of $(part 1 | grep -c .) lines"
+    section "The verdict, with a run that breaks it where it is refused and one is found:" verify "$1"
+    shown 1
+    if part 1 | grep -q ': accepted, '; then
         section "A run beside a simulated card, where each block that the script gives is of zeros:" try "$1" "$card" "new:$blocks"
-        shown 5
-        section "What a review finds. Only what it says of partitions, writes and erases is about the data:" review "$1"
-        shown 4
-    else
-        shown 1
-        section "Why:" explain --why "$1"
         shown 2
-        if part 1 | grep -q '^refused '; then
-            section "A run that breaks it, if one is found:" refute "$1"
-            shown 3
-        fi
     fi
     printf '\n%s\n' "Nothing was proved. 'make build' proves the program and leaves it as crates/sdv/out/sdv."
     exit "$verdict"

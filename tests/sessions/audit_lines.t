@@ -4,7 +4,8 @@ one line. Beside the script it has no finding, and the lines keep their numbers.
   $ four=$EXAMPLES/sd_four_lines.sdv card=$EXAMPLES/sd_block.card; sdv certify $four > four.cert
   $ sdv run $four four.cert $card new:1024 > four.trace; sdv audit sd four.trace
   line 13: IN 1 ok: a card that answered so may be in data, a read is due, the card on 4 data lines and the host on 1 data line: block addresses
-  14 lines, 1 reckless, 0 that no card answers, 0 of another length, 0 beyond the capacity, 0 outside
+  at the end: lines before it that are not followed: 1
+  14 lines, 1 reckless, 0 that no card answers, 0 of another length, 0 beyond the capacity, 0 outside, 1 not followed, 0 left out
   [1]
   $ sdv audit sd four.trace --script $four
   line 1, script line 6: CMD0 00000000 -: no answer is due
@@ -21,7 +22,7 @@ one line. Beside the script it has no finding, and the lines keep their numbers.
   line 12, script line 16: CMD17 00000000 R1 00000900: tran, ready
   line 13, script line 16: IN 1 ok: blocks from the card
   line 14, script line 17: done: the run ends
-  14 lines, 0 reckless, 0 that no card answers, 0 of another length, 0 beyond the capacity, 0 outside
+  14 lines, 0 reckless, 0 that no card answers, 0 of another length, 0 beyond the capacity, 0 outside, 0 not followed, 0 left out
 
 JSON and a picture stand alone; the status is that of the audit.
 
@@ -35,7 +36,8 @@ JSON and a picture stand alone; the status is that of the audit.
   line 2, script line 4: CMD2 00000000 timeout: no answer: the tables have no such answer here
   line 3, script line 5: fault stop: the run ends
   line 2: CMD2 00000000: a card that answered so may be in idle, the card on 1 data line and the host on 4 data lines: byte addresses, block length not 512
-  3 lines, 1 reckless, 0 that no card answers, 0 of another length, 0 beyond the capacity, 0 outside
+  at the end: lines before it that are not followed: 1
+  3 lines, 1 reckless, 0 that no card answers, 0 of another length, 0 beyond the capacity, 0 outside, 1 not followed, 0 left out
   [1]
   $ sdv audit sd wide.trace --script wide.sdv --json
   {"line":1,"script":2,"told":"CMD0 00000000 -","text":"no answer is due"}
@@ -52,5 +54,5 @@ A trial tells the data lines itself, behind the line of the event before the cha
   IN 1 ok
   done
   $ sdv try $four $card new:1024 --lines | sdv audit sd -
-  15 lines, 0 reckless, 0 that no card answers, 0 of another length, 0 beyond the capacity, 0 outside
+  15 lines, 0 reckless, 0 that no card answers, 0 of another length, 0 beyond the capacity, 0 outside, 0 not followed, 0 left out
   $ sdv try $four $card new:1024 > plain.trace; cmp plain.trace four.trace

@@ -12,7 +12,7 @@ Traces beside their scripts.
   line 8, script line 11: CMD7 12340000 R1 00000700: stby, ready
   line 9, script line 12: CMD16 00000200 R1 00000900: tran, ready
   line 10, script line 14: done: the run ends
-  10 lines, 0 reckless, 0 that no card answers, 0 of another length, 0 beyond the capacity, 0 outside
+  10 lines, 0 reckless, 0 that no card answers, 0 of another length, 0 beyond the capacity, 0 outside, 0 not followed, 0 left out
   $ sdv audit sd - --script $up --json < up.trace | head -n 4
   {"line":1,"script":5,"told":"CMD0 00000000 -","text":"no answer is due"}
   {"line":2,"script":6,"told":"CMD8 000001aa R7 000001aa","text":"the echo"}
@@ -26,7 +26,7 @@ An answer that was lost leaves open whether the card took the command.
   $ sdv audit sd lost.trace --script $up | tail -n 3
   line 4, script line 7: ACMD41 40ff8000 timeout: no answer: the card may be in idle or ready
   line 5, script line 7: fault lost41: the run ends
-  5 lines, 0 reckless, 0 that no card answers, 0 of another length, 0 beyond the capacity, 0 outside
+  5 lines, 0 reckless, 0 that no card answers, 0 of another length, 0 beyond the capacity, 0 outside, 0 not followed, 0 left out
   $ sdv certify $EXAMPLES/sd_read_retry.sdv > read.cert
   $ printf '0000000002' > schedule; sdv run $EXAMPLES/sd_read_retry.sdv read.cert $card new:1024 schedule > read.trace
   $ sdv audit sd read.trace --script $EXAMPLES/sd_read_retry.sdv | tail -n 6
@@ -35,7 +35,7 @@ An answer that was lost leaves open whether the card took the command.
   line 12, script line 16: CMD17 00000000 R1 00000900: tran, ready
   line 13, script line 16: IN 1 ok: blocks from the card
   line 14, script line 16: done: the run ends
-  14 lines, 0 reckless, 0 that no card answers, 0 of another length, 0 beyond the capacity, 0 outside
+  14 lines, 0 reckless, 0 that no card answers, 0 of another length, 0 beyond the capacity, 0 outside, 0 not followed, 0 left out
 
 A register, whose bytes may be given. Without them its capacity is the greatest.
 
@@ -46,7 +46,7 @@ A register, whose bytes may be given. Without them its capacity is the greatest.
   line 8, script line 12: CMD8 00000000 R1 00000900: tran, ready
   line 9, script line 12: REG 512 ok: EXT_CSD
   line 10, script line 13: done: the run ends
-  10 lines, 0 reckless, 0 that no card answers, 0 of another length, 0 beyond the capacity, 0 outside
+  10 lines, 0 reckless, 0 that no card answers, 0 of another length, 0 beyond the capacity, 0 outside, 0 not followed, 0 left out
   $ sed 's/^done$/if cap >= 4096 { done } else { fault small }/' $device > large.sdv; sdv certify large.sdv > large.cert
   $ sdv run large.sdv large.cert $EXAMPLES/emmc_block.card new:2048 > small.trace
   [1]
@@ -55,7 +55,7 @@ A register, whose bytes may be given. Without them its capacity is the greatest.
   line 10, script line 13: the end: the script does not come here; it stands at done
   $ head -c 512 /dev/zero > register; sdv audit emmc small.trace --script large.sdv --registers register | tail -n 2
   line 10, script line 13: fault small: the run ends
-  10 lines, 0 reckless, 0 that no card answers, 0 of another length, 0 beyond the capacity, 0 outside
+  10 lines, 0 reckless, 0 that no card answers, 0 of another length, 0 beyond the capacity, 0 outside, 0 not followed, 0 left out
 
 What the bytes say that are given: the capacities in an EXT_CSD, and the bytes of other registers in hexadecimal.
 
@@ -86,7 +86,8 @@ Errors in a status, a phase that was cut, and a wait.
   line 4, script line 5: WAIT late: still busy: the tables have no such answer here
   line 5, script line 6: fault stop: the run ends
   line 2: CMD13 00000000: a card that answered so may be in idle: byte addresses, block length not 512
-  5 lines, 1 reckless, 0 that no card answers, 0 of another length, 0 beyond the capacity, 0 outside
+  at the end: lines before it that are not followed: 3
+  5 lines, 1 reckless, 0 that no card answers, 0 of another length, 0 beyond the capacity, 0 outside, 3 not followed, 0 left out
   [1]
 
 A trace may end before the run does.
@@ -94,7 +95,7 @@ A trace may end before the run does.
   $ head -n 2 up.trace | sdv audit sd - --script $up
   line 1, script line 5: CMD0 00000000 -: no answer is due
   line 2, script line 6: CMD8 000001aa R7 000001aa: the echo
-  2 lines, 0 reckless, 0 that no card answers, 0 of another length, 0 beyond the capacity, 0 outside
+  2 lines, 0 reckless, 0 that no card answers, 0 of another length, 0 beyond the capacity, 0 outside, 0 not followed, 0 left out
 
 A line that is not of the script, or no line of a trace; what stands before it is printed.
 

@@ -13,7 +13,7 @@ Explanations of scripts in files.
   a run that breaks the script, beside a simulated card:
       mishap   none
       wrong    line 1: CMD7 comes to a card in idle state, where it is not legal
-      `sdv refute` prints its card, its schedule and its trace
+      `sdv verify --save DIR` leaves its card and its schedule in DIR
   a way there:
       before the first command    idle: byte addresses, block length not 512
   
@@ -230,28 +230,41 @@ A run that breaks the script, behind the reason and before the way. Such a run m
       mishap   line 31: the answer to CMD12 is lost
       mishap   line 32: the card is not ready at CMD13
       wrong    line 32: CMD12 comes to a card in prg state, where it is not legal
-      `sdv refute` prints its card, its schedule and its trace
+      `sdv verify --save DIR` leaves its card and its schedule in DIR
   $ sdv explain --why $EXAMPLES/hosts/linux_write.sdv 2> said | sed -n '4,9p'
   why: CMD12 is not legal in prg state
   a run that breaks the script, beside a simulated card:
       mishap   line 31: the CRC status of the phase of 1 block to the card is lost, and the card programs the blocks
       mishap   line 32: the card is not ready at CMD13
       wrong    line 32: CMD12 comes to a card in prg state, where it is not legal
-      `sdv refute` prints its card, its schedule and its trace
+      `sdv verify --save DIR` leaves its card and its schedule in DIR
   $ sdv explain --why $EXAMPLES/hosts/edk2.sdv 2> said | sed -n '4,10p'
   why: this is an application command, and the card may not take the next command as one
   a run that breaks the script, beside a simulated card:
+      mishap   line 13: the card refuses CMD55 with an error
+      wrong    line 14: CMD41 comes to a card in idle state without the application flag
+      `sdv verify --save DIR` leaves its card and its schedule in DIR
+  a way there:
+      before the first command    idle: byte addresses, block length not 512
+  $ sdv verify $EXAMPLES/hosts/edk2.sdv | sed -n '/^    [mw]/p'
+      mishap   line 13: the card refuses CMD55 with an error
+      wrong    line 14: CMD41 comes to a card in idle state without the application flag
+      mishap   line 17: the card refuses CMD3 with an error
+      wrong    line 18: CMD7 comes to a card in ident state, where it is not legal
+      mishap   line 18: the card refuses CMD7 with an error
+      wrong    line 20: CMD6 comes to a card in stby state, where it is not legal
+      mishap   line 22: CMD7 is lost
+      wrong    line 23: CMD3 comes to a card in tran state, where it is not legal
+      mishap   line 26: the card refuses CMD7 with an error
+      wrong    line 30: CMD17 comes to a card in stby state, where it is not legal
+      mishap   line 20: the card refuses CMD6 with an error
+      wrong    line 30: IN 1 comes to a card in data state that uses other data lines than the host
+      mishap   line 31: the answer to CMD24 is lost
+      wrong    line 31: CMD24 comes to a card in rcv state, where it is not legal
+      mishap   line 31: the card refuses CMD24 with an error
+      wrong    line 31: OUT 1 comes to a card in tran state with no write of blocks due
       mishap   none
       wrong    line 31: done comes to a card in prg state
-      `sdv refute` prints its card, its schedule and its trace
-      it stops at point 46, and the refusal names point 6
-  a way there:
-  $ sdv refute $EXAMPLES/hosts/edk2.sdv | sed -n '/^mishaps/,/^card/p'
-  mishaps
-  none
-  wrong
-  line 31: done comes to a card in prg state
-  card over new:1024
 
 Where none is found, nothing is added; nor where a run may be long, or where the script is accepted.
 

@@ -1,4 +1,4 @@
-Cards at the limits of descriptions, beside `try`, `try --each` and `refute`. The least card of each sort.
+Cards at the limits of descriptions, beside `try`, `try --each` and `verify`. The least card of each sort.
 
   $ up=$EXAMPLES/sd_bring_up.sdv; mmc=$EXAMPLES/emmc_bring_up.sdv
   $ try() { printf "$2" > card; sdv try $1 card $3 > trace; status=$?; tail -n 1 trace; return $status; }
@@ -45,10 +45,10 @@ Relative card addresses.
   $ for rca in 1 65535; do printf "card sd\nversion 2\nunit block\ncsize 0\nrca $rca\n" > card; sdv try $up card new:1024 | grep -e CMD3 -e CMD7; sdv try --each $up card new:1024 | tail -n 1; done
   CMD3 00000000 R6 00010500
   CMD7 00010000 R1 00000700
-  8 done, 34 faults, 0 wrong, 0 stopped
+  with one: 0 wrong, 0 stopped, 43 fault, 11 done
   CMD3 00000000 R6 ffff0500
   CMD7 ffff0000 R1 00000700
-  8 done, 34 faults, 0 wrong, 0 stopped
+  with one: 0 wrong, 0 stopped, 43 fault, 11 done
   $ for rca in 0 65536 -1 99999999999999999999; do printf "card sd\nversion 2\nunit block\ncsize 0\nrca $rca\n" > card; sdv try $up card new:1024; sdv try --each $up card new:1024; done
   card fault Description
   card fault Description
@@ -121,31 +121,31 @@ Numbers beyond the limits, and images that do not fit.
 
 The end of a search in which no small card shows what is wrong: the script sends CMD12 too early only beside a great card.
 
-  $ sed 's/^done/if cap >= 4194304 { send 13 { else { } } send 12 { else { } } } else { }\ndone/' $up > great.sdv; sdv refute great.sdv
-  no run beside a simulated card was found, but the greatest card with byte addresses breaks the script:
-  refused Illegal point 24 shape 0000000000002804
-  line 14, point 24: CMD12, if the card is
-      tran: byte addresses, block length 512
-  why: CMD12 is not legal in tran state
-  a way there, if its number tests come out so:
-      before the first command    idle: byte addresses, block length not 512
-      line 5   CMD0                    -                                    then idle: byte addresses, block length not 512
-      line 6   CMD8                    timeout                              then idle: byte addresses, block length not 512
-      line 7   CMD55                   status idle, application command next then idle, application command next: byte addresses, block length not 512
-                   takes `app`
-      line 7   CMD41                   answer, ready, byte addresses        then ready: byte addresses, block length not 512
-                   takes `ocr.ready`
-      line 8   CMD2                    answer                               then ident: byte addresses, block length not 512
-                   takes `answer`
-      line 9   CMD3                    status ident                         then stby: byte addresses, block length not 512
-                   takes `clean`
-      line 10  CMD9                    answer                               then stby: byte addresses, block length not 512
-                   takes `answer`
-      line 11  CMD7                    status stby                          then tran: byte addresses, block length not 512
-                   takes `clean`
-      line 12  CMD16                   status tran                          then tran: byte addresses, block length 512
-                   takes `clean`
-      line 14  CMD13                   timeout                              then tran: byte addresses, block length 512
+  $ sed 's/^done/if cap >= 4194304 { send 13 { else { } } send 12 { else { } } } else { }\ndone/' $up > great.sdv; sdv verify great.sdv
+  great.sdv:14:42: error: CMD12 is not legal in tran state [state]
+      card     tran: byte addresses, block length 512
+      path     of the greatest card with byte addresses; no simulated card was found that breaks the script
+      a way there, if its number tests come out so:
+          before the first command    idle: byte addresses, block length not 512
+          line 5   CMD0                    -                                    then idle: byte addresses, block length not 512
+          line 6   CMD8                    timeout                              then idle: byte addresses, block length not 512
+          line 7   CMD55                   status idle, application command next then idle, application command next: byte addresses, block length not 512
+                       takes `app`
+          line 7   CMD41                   answer, ready, byte addresses        then ready: byte addresses, block length not 512
+                       takes `ocr.ready`
+          line 8   CMD2                    answer                               then ident: byte addresses, block length not 512
+                       takes `answer`
+          line 9   CMD3                    status ident                         then stby: byte addresses, block length not 512
+                       takes `clean`
+          line 10  CMD9                    answer                               then stby: byte addresses, block length not 512
+                       takes `answer`
+          line 11  CMD7                    status stby                          then tran: byte addresses, block length not 512
+                       takes `clean`
+          line 12  CMD16                   status tran                          then tran: byte addresses, block length 512
+                       takes `clean`
+          line 14  CMD13                   timeout                              then tran: byte addresses, block length 512
+  great.sdv: refused (1 error)
+  [1]
   $ sdv certify great.sdv | head -n 1
   refused Illegal point 24 shape 0000000000002804
   $ printf 'card sd\nversion 2\nunit block\ncsize 4194303\nrca 1\n' > card; sdv try great.sdv card block | tail -n 1
@@ -154,22 +154,26 @@ The end of a search in which no small card shows what is wrong: the script sends
 
 An e.MMC script that is wrong without a mishap, one that is wrong with one, and one of which no run is found.
 
-  $ printf 'card emmc\nsend 0 { else { } }\ndone\n' > early.sdv; sdv refute early.sdv | sed -n 2,9p
-  none
-  wrong
-  line 3: done comes to a card in idle state
-  card over new:1536
+  $ printf 'card emmc\nsend 0 { else { } }\ndone\n' > early.sdv; mkdir runs; sdv verify early.sdv --save runs; cat runs/1.card
+  early.sdv:3:1: error: done: at done the card has to be in tran state; CMD12 ends a transfer, and a wait the busy time [end-state]
+      card     idle: byte addresses, block length not 512
+      mishap   none
+      wrong    line 3: done comes to a card in idle state
+      then     done
+      left     the card in idle state
+      again    sdv try early.sdv runs/1.card new:1536 runs/1.schedule
+  early.sdv: refused (1 error)
   card emmc
   unit block
   sectors 1024
   boot 1
-  $ sed 's/^done/send 6 part.access 1 { else { } }\nwait { ok { } else { } }\nsend 17 at by hc 0 { else { } }\nrecv { ok { } else { } }\ndone/' $mmc > boot.sdv; sdv refute boot.sdv | sed -n '/^mishaps/,/^card emmc/p'
-  mishaps
-  line 14: the card is not ready at the wait
-  wrong
-  line 15: CMD17 comes to a card in prg state, where it is not legal
-  card over new:1536
-  card emmc
-  $ sdv refute $mmc
-  no run found (no path of the state tables breaks the script)
-  [1]
+  $ sed 's/^done/send 6 part.access 1 { else { } }\nwait { ok { } else { } }\nsend 17 at by hc 0 { else { } }\nrecv { ok { } else { } }\ndone/' $mmc > boot.sdv; sdv verify boot.sdv | sed -n '/^    [mw]/p'
+      mishap   line 14: the card is not ready at the wait
+      wrong    line 15: CMD17 comes to a card in prg state, where it is not legal
+      mishap   line 15: CMD17 is lost
+      wrong    line 16: IN 1 comes to a card in tran state with no read of blocks due
+      mishap   line 16: the phase of 1 block from the card is cut
+      wrong    line 17: done comes to a card in data state
+  $ (cd $EXAMPLES; sdv verify emmc_bring_up.sdv)
+  emmc_bring_up.sdv:4:6: note: cap is never read [unread]
+  emmc_bring_up.sdv: accepted, at most 1007 commands (1 note)

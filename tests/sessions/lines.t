@@ -65,6 +65,73 @@ was not answered.
   2 CMD55 00000000 timeout
   CMD55 00000000 R1
 
+Lines before the first answer are skipped; the first four are shown. Behind it a line is an answer, or ends the run.
+
+  $ answers() { printf -- '-\nR1 00000120\n'; }
+  $ { printf 'U-Boot 2023.01\r\n'; answers; } | sdv drive a.sdv a.cert
+  CMD0 00000000 -
+  skipped line 1: "U-Boot 2023.01"
+  CMD55 00000000 R1
+  fault told
+  [1]
+  $ { printf '\033[2J\377\tready \n\n R1 00000120\nr1\nR1 0000012\nTimeout\n%060d\nok \n' 0; answers; } | sdv drive a.sdv a.cert
+  CMD0 00000000 -
+  skipped line 1: "?[2J??ready"
+  skipped line 2: ""
+  skipped line 3: " R1 00000120"
+  skipped line 4: "r1"
+  skipped 7 lines in all
+  answer fault Line line 1: found "ok ", expected -
+  [2]
+  $ { head -c 1025 /dev/zero | tr '\0' x; printf '\n- \t\r\nR1 00000120\n'; } | sdv drive a.sdv a.cert
+  CMD0 00000000 -
+  skipped line 1: "xxxxxxxxxxxxxxxxxxxxxxxxxxxxxxxxxxxxxxxxxxxxxxxx"..
+  CMD55 00000000 R1
+  fault told
+  [1]
+  $ { head -c 1026 /dev/zero | tr '\0' x; echo; answers; } | sdv drive a.sdv a.cert
+  CMD0 00000000 -
+  answer fault Line line 1: found "xxxxxxxxxxxxxxxxxxxxxxxxxxxxxxxxxxxxxxxxxxxxxxxx".., expected -
+  [2]
+  $ { echo x; printf -- '-\nx\nR1 00000120\n'; } | sdv drive a.sdv a.cert
+  CMD0 00000000 -
+  skipped line 1: "x"
+  CMD55 00000000 R1
+  answer fault Line line 2: found "x", expected R1 and 8 digits, timeout or damaged
+  [2]
+  $ printf 'x\nR1 00000120\n' | sdv drive a.sdv a.cert
+  CMD0 00000000 -
+  skipped line 1: "x"
+  answer fault Line line 1: found "R1 00000120", expected -
+  [2]
+  $ printf 'x\n-' | sdv drive a.sdv a.cert
+  CMD0 00000000 -
+  skipped line 1: "x"
+  answer fault Closed line 1: found the end behind "-", expected -
+  [2]
+  $ { seq 1000; answers; } | sdv drive a.sdv a.cert
+  CMD0 00000000 -
+  skipped line 1: "1"
+  skipped line 2: "2"
+  skipped line 3: "3"
+  skipped line 4: "4"
+  skipped 1000 lines in all
+  CMD55 00000000 R1
+  fault told
+  [1]
+  $ { seq 1001; answers; } | sdv drive a.sdv a.cert
+  CMD0 00000000 -
+  skipped line 1: "1"
+  skipped line 2: "2"
+  skipped line 3: "3"
+  skipped line 4: "4"
+  skipped 1000 lines in all
+  answer fault Line line 1: found "1001", expected -
+  [2]
+  $ printf 'x\n' | sdv drive a.sdv a.cert --in none
+  cannot use none
+  [2]
+
 Where no response is waited for, the trace has the command as it was sent.
 
   $ for line in timeout damaged 'R1 00000900'; do printf "$line\n" | sdv drive a.sdv a.cert --trace trace 2>&1 > asked; echo $?; done; cat trace

@@ -221,7 +221,7 @@ Files with a letter are read by name, and others as digits.
   1 fault unready
   $ printf '# n\xc3\xa4chste\nCMD8: lost' > names; sdv try $script $card $image names | tail -n 1; printf 'CMD8: lost\377' > names; sdv try $script $card $image names
   fault unready
-  schedule fault: no mishap (command lost, answer lost, not ready, error shown, refused, phase cut, switch fails, CRC status lost, no APP_CMD, lost while busy, error while busy) in line 1
+  schedule fault: no mishap (command lost, answer lost, not ready, error shown, refused, phase cut, switch fails, CRC status lost, no APP_CMD, lost while busy, error while busy, write fails, time passes, OUT_OF_RANGE, ERASE_SEQ_ERROR, ILLEGAL_COMMAND) in line 1
   [1]
 
 Lines that name no event.
@@ -254,7 +254,7 @@ Lines that name no mishap.
   schedule fault: no mishap in line 1
   schedule fault: no mishap in line 1
   $ printf '\r\nCMD55: is lost\r\n' > names; sdv try $script $card $image names
-  schedule fault: no mishap (command lost, answer lost, not ready, error shown, refused, phase cut, switch fails, CRC status lost, no APP_CMD, lost while busy, error while busy) in line 2
+  schedule fault: no mishap (command lost, answer lost, not ready, error shown, refused, phase cut, switch fails, CRC status lost, no APP_CMD, lost while busy, error while busy, write fails, time passes, OUT_OF_RANGE, ERASE_SEQ_ERROR, ILLEGAL_COMMAND) in line 2
   [1]
 
 At most 64 lines name a mishap.
@@ -270,13 +270,13 @@ At most 64 lines name a mishap.
 A wrong line is told once the file is read, before anything is said of the others but that they can be read. Nothing is written.
 
   $ printf 'CMD55: none' > names; printf 'card\n' > none.sdv; head -c 511 /dev/zero > odd; sdv try none.sdv none.sdv odd names --in nofile
-  schedule fault: no mishap (command lost, answer lost, not ready, error shown, refused, phase cut, switch fails, CRC status lost, no APP_CMD, lost while busy, error while busy) in line 1
+  schedule fault: no mishap (command lost, answer lost, not ready, error shown, refused, phase cut, switch fails, CRC status lost, no APP_CMD, lost while busy, error while busy, write fails, time passes, OUT_OF_RANGE, ERASE_SEQ_ERROR, ILLEGAL_COMMAND) in line 1
   [1]
   $ sdv try $script nofile odd names
   cannot use nofile
   [2]
   $ printf x > out; sdv try $script $card $image names --out out || wc -c < out
-  schedule fault: no mishap (command lost, answer lost, not ready, error shown, refused, phase cut, switch fails, CRC status lost, no APP_CMD, lost while busy, error while busy) in line 1
+  schedule fault: no mishap (command lost, answer lost, not ready, error shown, refused, phase cut, switch fails, CRC status lost, no APP_CMD, lost while busy, error while busy, write fails, time passes, OUT_OF_RANGE, ERASE_SEQ_ERROR, ILLEGAL_COMMAND) in line 1
   1
   $ printf 'CMD8: lost' > names; sdv try none.sdv none.sdv odd names
   card fault ImageLength
@@ -308,29 +308,39 @@ Where blocks are given, read or written, the run that is printed alone changes f
   done
   4096
 
-What `refute` tells of a run, written as names, shows the same run. On line 31 of the second script CMD12 is not the first event.
+What `verify` tells of a run, written as names, shows the same run. On line 31 of the second script CMD12 is not the first event.
 
   $ head -c 1048576 /dev/zero > zeros
   $ again() {
-  >   sdv refute $EXAMPLES/hosts/$1.sdv --card card > told; sed -n '/^mishaps/,/^wrong/p' told | sed '1d;$d'; printf "$2" > names
-  >   sdv try $EXAMPLES/hosts/$1.sdv card $(sed -n 's/^card over //p' told) names --in zeros > named; sed '1,/^trace/d' told | cmp - named
+  >   rm -rf runs; mkdir runs; sdv verify $EXAMPLES/hosts/$1.sdv --save runs > told; sed -n '/^    mishap/p' told; printf "$2" > names
+  >   words=$(sed -n 's/^    again    //p' told | head -n 1); ${words% *} runs/1.schedule --in zeros > one 2> said; ${words% *} names --in zeros | cmp - one
   > }
   $ again linux_erase 'line 30: refused\n'
-  line 30: the card refuses CMD32 with an error
+      mishap   line 30: the card refuses CMD32 with an error
+      mishap   line 31: the card refuses CMD33 with an error
   line 31: CMD33 comes to a card in tran state whose erase sequence is not so far
   $ again linux_write_many 'CMD12: answer lost\nline 32: not ready\n'
-  line 31: the answer to CMD12 is lost
-  line 32: the card is not ready at CMD13
+      mishap   line 31: the answer to CMD12 is lost
+      mishap   line 32: the card is not ready at CMD13
   line 32: CMD12 comes to a card in prg state, where it is not legal
   $ again uboot 'line 13: refused\n'
-  line 13: the card refuses CMD55 with an error
+      mishap   line 13: the card refuses CMD55 with an error
+      mishap   line 13: the card refuses CMD55 with an error
+      mishap   line 17: the answer to CMD2 is lost
+      mishap   line 18: the card refuses CMD3 with an error
+      mishap   line 20: the card refuses CMD7 with an error
+      mishap   line 22: the card refuses CMD51 with an error
+      mishap   line 23: the card refuses CMD55 with an error
+      mishap   line 27: the card refuses CMD16 with an error
+      mishap   line 24: the card refuses CMD6 with an error
+      mishap   line 31: the card refuses CMD24 with an error
   line 14: CMD41 comes to a card in idle state without the application flag
   $ again linux_write '2nd line 31: CRC status lost\nline 32: not ready\n'
-  line 31: the CRC status of the phase of 1 block to the card is lost, and the card programs the blocks
-  line 32: the card is not ready at CMD13
+      mishap   line 31: the CRC status of the phase of 1 block to the card is lost, and the card programs the blocks
+      mishap   line 32: the card is not ready at CMD13
   line 32: CMD12 comes to a card in prg state, where it is not legal
   $ again uboot_read_many 'line 24: answer lost\n'
-  line 24: the answer to CMD18 is lost
+      mishap   line 24: the answer to CMD18 is lost
   line 23: CMD16 comes to a card in data state, where it is not legal
 
 Names are for `try` alone.

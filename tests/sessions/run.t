@@ -189,7 +189,7 @@ The registers that came, as `sdv audit --script` takes them: of an e.MMC device 
   line 10, script line 13: the end: the script does not come here; it stands at done
   $ sdv audit emmc large.trace --script large.sdv --registers r | tail -n 2
   line 10, script line 13: fault small: the run ends
-  10 lines, 0 reckless, 0 that no card answers, 0 of another length, 0 beyond the capacity, 0 outside
+  10 lines, 0 reckless, 0 that no card answers, 0 of another length, 0 beyond the capacity, 0 outside, 0 not followed, 0 left out
   $ { sed '/^done$/d' $up; for index in 51 13; do
   >     echo "send 55 { app & state=tran { send $index { clean { recv reg { ok { } else { fault lost } } } else { fault no } } } else { fault no } }"
   > done; echo done; } > both.sdv; sdv certify both.sdv > both.cert
@@ -214,7 +214,7 @@ The registers that came, as `sdv audit --script` takes them: of an e.MMC device 
   line 14, script line 15: ACMD13 12340000 R1 00000920: tran, ready, APP_CMD
   line 15, script line 15: REG 64 ok: SD status 00000000000000000000000000000000000000000000000000000000000000000000000000000000000000000000000000000000000000000000000000000000
   line 16, script line 16: done: the run ends
-  16 lines, 0 reckless, 0 that no card answers, 0 of another length, 0 beyond the capacity, 0 outside
+  16 lines, 0 reckless, 0 that no card answers, 0 of another length, 0 beyond the capacity, 0 outside, 0 not followed, 0 left out
 
 Where the second is cut, it is not there; of a script that reads none the file is empty.
 

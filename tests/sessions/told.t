@@ -27,7 +27,8 @@ Words that no other session shows: of lines of traces beside a script.
   line 9, script line 10: REG 8 ok: SCR
   line 10, script line 11: done: the run ends
   line 2: CMD8 000001aa: no card answers so: R7 000001ab
-  10 lines, 0 reckless, 1 that no card answers, 0 of another length, 0 beyond the capacity, 0 outside
+  at the end: lines before it that are not followed: 8
+  10 lines, 0 reckless, 1 that no card answers, 0 of another length, 0 beyond the capacity, 0 outside, 8 not followed, 0 left out
   [1]
   $ printf '\001\045\200\000\002\003\004\005' | sdv audit sd words.trace --script words.sdv --registers - | sed -n 9p
   line 9, script line 10: REG 8 ok: SCR 0125800002030405
@@ -89,26 +90,29 @@ Words that no other session shows: of lines of traces beside a script.
   line 4, script line 7: ACMD41 40ff8000 R3 00ff8000: not ready
   line 5, script line 7: CMD55 00000000 R1 00000120: idle, ready, APP_CMD
   line 6, script line 7: ACMD41 40ff8000 R3 80ff8000: ready, byte addresses
-  6 lines, 0 reckless, 0 that no card answers, 0 of another length, 0 beyond the capacity, 0 outside
+  6 lines, 0 reckless, 0 that no card answers, 0 of another length, 0 beyond the capacity, 0 outside, 0 not followed, 0 left out
 
-What a review says of partitions, and of an erase that was not begun whole.
+What a verdict says of partitions, and of an erase that was not begun whole.
 
   $ up() { sed '/^send 6 part.access/,$d' $EXAMPLES/emmc_boot_read.sdv; }
   $ wait='loop 1000 { wait { ok { break } else { } } } else { fault busy }'
   $ maybe() { printf 'loop 3 {\nsend 6 part.access %s { else { } }\n%s\nsend 13 { clean & state=tran { break } else { } }\n} else { fault sw }\n' $1 "$wait"; }
   $ sure() { printf 'send 6 part.access %s { clean { } else { fault sw } }\n%s\nsend 13 { clean & state=tran { } else { fault sw } }\n' $1 "$wait"; }
   $ read='send 17 at by hc 0 { clean { recv { ok { done } else { fault cut } } } else { fault lost } } fault read'
-  $ { up; maybe 2; echo "$read"; } | sdv review - | grep reach
-  line 23: CMD17 may reach the user area or boot partition 2
-  $ { up; maybe 1; maybe 2; echo "$read"; } | sdv review - | grep reach
-  line 28: CMD17 may reach the user area or a boot partition
-  $ { up; sure 1; maybe 2; echo "$read"; } | sdv review - --json | grep reach
-  {"line":26,"kind":"partition","text":"CMD17 may reach boot partition 1 or boot partition 2"}
-  {"line":26,"kind":"unreached","text":"no run comes to fault read"}
+  $ { up; maybe 2; echo "$read"; } | sdv verify - | grep reach
+  -:23:1: warning: CMD17 may reach the user area or boot partition 2 [partition]
+  -:23:94: note: no run comes to fault read [unreached]
+  $ { up; maybe 1; maybe 2; echo "$read"; } | sdv verify - | grep reach
+  -:28:1: warning: CMD17 may reach the user area or a boot partition [partition]
+  -:28:94: note: no run comes to fault read [unreached]
+  $ { up; sure 1; maybe 2; echo "$read"; } | sdv verify - --json | grep reach
+  {"column":1,"file":"-","kind":"partition","line":26,"point":49,"severity":"warning","text":"CMD17 may reach boot partition 1 or boot partition 2"}
+  {"column":94,"file":"-","kind":"unreached","line":26,"point":54,"severity":"note","text":"no run comes to fault read"}
   $ up() { grep -v '^done' $EXAMPLES/sd_bring_up.sdv; echo 'if cap >= 16 { } else { fault small }'; }
-  $ { up; echo 'send 32 at by hc 8 { clean { } else { done } } done'; } | sdv review -
-  line 15: done may come where the erase of line 15 was begun without a last block
-  line 15: done may come where the erase of line 15 was begun without a last block
+  $ { up; echo 'send 32 at by hc 8 { clean { } else { done } } done'; } | sdv verify -
+  -:15:39: warning: done may come where the erase of line 15 was begun without a last block [erase]
+  -:15:48: warning: done may come where the erase of line 15 was begun without a last block [erase]
+  -: accepted, at most 2008 commands (2 warnings)
   [1]
 
 An audit that waits for a CMD0 says so, with each line of the trace.
@@ -120,9 +124,9 @@ An audit that waits for a CMD0 says so, with each line of the trace.
   line 2: CMD13 00000000: a card that answered so may be in idle: byte addresses, block length not 512
   line 3: CMD13 00000000 R1 00000900: waits for CMD0
   line 4: CMD0 00000000 -: waits for CMD0
-  line 4: CMD0 00000000: the audit begins anew
+  line 4: CMD0 00000000: the audit begins anew; lines before it that are not followed: 1
   at the end: in idle
-  4 lines, 1 reckless, 0 that no card answers, 0 of another length, 0 beyond the capacity, 0 outside
+  4 lines, 1 reckless, 0 that no card answers, 0 of another length, 0 beyond the capacity, 0 outside, 1 not followed, 0 left out
   [1]
   $ sdv audit sd wrong.trace --annotate --json
   {"line":1,"told":"CMD0 00000000 -","finding":"states","text":"in idle"}
@@ -130,7 +134,7 @@ An audit that waits for a CMD0 says so, with each line of the trace.
   {"line":2,"told":"CMD13 00000000","finding":"reckless","text":"a card that answered so may be in idle: byte addresses, block length not 512"}
   {"line":3,"told":"CMD13 00000000 R1 00000900","finding":"states","text":"waits for CMD0"}
   {"line":4,"told":"CMD0 00000000 -","finding":"states","text":"waits for CMD0"}
-  {"line":4,"told":"CMD0 00000000","finding":"anew","text":"the audit begins anew"}
+  {"line":4,"told":"CMD0 00000000","finding":"anew","text":"the audit begins anew; lines before it that are not followed: 1"}
   {"line":4,"told":"","finding":"end","text":"in idle"}
-  {"lines":4,"reckless":1,"unanswered":0,"lengths":0,"beyond":0,"outside":0}
+  {"lines":4,"reckless":1,"unanswered":0,"lengths":0,"beyond":0,"outside":0,"not_followed":1,"left_out":0}
   [1]

@@ -1,49 +1,46 @@
 Every run of a script with one mishap; `-` where the event cannot have it. An accepted script comes to nothing that is not allowed.
 
   $ sdv try --each $EXAMPLES/sd_bring_up.sdv $EXAMPLES/sd_block.card new:1024
-  line       event       command lost  answer lost  not ready  error shown  refused  phase cut  switch fails  CRC status lost  no APP_CMD  lost while busy  error while busy
-  line 5     CMD0        -             -            -          -            -        -          -             -                -           -                -
-  line 6     CMD8        fault         done         -          -            -        -          -             -                -           fault            -
-  line 7     CMD55       fault         fault        done       done         fault    -          -             -                fault       fault            done
-  line 7     CMD41       fault         fault        done       -            -        -          -             -                -           fault            -
-  line 8     CMD2        fault         fault        -          -            -        -          -             -                -           fault            -
-  line 9     CMD3        fault         fault        done       fault        fault    -          -             -                -           fault            fault
-  line 10    CMD9        fault         fault        -          -            -        -          -             -                -           fault            -
-  line 11    CMD7        fault         fault        done       fault        fault    -          -             -                -           fault            fault
-  line 12    CMD16       fault         fault        done       fault        fault    -          -             -                -           fault            fault
+  line 5     CMD0        -
+  line 6     CMD8        fault: lost, lost while busy; done: answer lost
+  line 7     CMD55       fault: lost, answer lost, refused, no APP_CMD, lost while busy, ERASE_SEQ_ERROR; done: not ready, error shown, error while busy, OUT_OF_RANGE, ILLEGAL_COMMAND
+  line 7     CMD41       fault: lost, answer lost, lost while busy; done: not ready
+  line 8     CMD2        fault: lost, answer lost, lost while busy
+  line 9     CMD3        fault: lost, answer lost, error shown, refused, lost while busy, error while busy, OUT_OF_RANGE, ERASE_SEQ_ERROR; done: not ready, ILLEGAL_COMMAND
+  line 10    CMD9        fault: lost, answer lost, lost while busy
+  line 11    CMD7        fault: lost, answer lost, error shown, refused, lost while busy, error while busy, OUT_OF_RANGE, ERASE_SEQ_ERROR, ILLEGAL_COMMAND; done: not ready
+  line 12    CMD16       fault: lost, answer lost, error shown, refused, lost while busy, error while busy, OUT_OF_RANGE, ERASE_SEQ_ERROR, ILLEGAL_COMMAND; done: not ready
   without a mishap: done
-  8 done, 34 faults, 0 wrong, 0 stopped
+  with one: 0 wrong, 0 stopped, 43 fault, 11 done
   $ sdv try --each $EXAMPLES/emmc_bring_up.sdv $EXAMPLES/emmc_byte.card new:16 | tail -n 2
   without a mishap: done
-  4 done, 27 faults, 0 wrong, 0 stopped
+  with one: 0 wrong, 0 stopped, 36 fault, 4 done
 
 Scripts that are refused: beside each of two cards, with one mishap that shows it, and without a mishap.
 
   $ sdv try --each $EXAMPLES/hosts/linux_read.sdv $EXAMPLES/sd_block.card new:1024
-  line       event       command lost  answer lost  not ready  error shown  refused  phase cut  switch fails  CRC status lost  no APP_CMD  lost while busy  error while busy
-  line 10    CMD0        -             -            -          -            -        -          -             -                -           -                -
-  line 11    CMD8        fault         fault        -          -            -        -          -             -                -           fault            -
-  line 14    CMD55       done          done         done       done         done     -          -             -                done        done             done
-  line 16    CMD41       done          wrong        done       -            -        -          -             -                -           done             -
-  line 24    CMD2        done          wrong        -          -            -        -          -             -                -           done             -
-  line 25    CMD3        done          done         done       done         wrong    -          -             -                -           done             done
-  line 26    CMD9        done          done         -          -            -        -          -             -                -           done             -
-  line 27    CMD7        done          wrong        done       done         wrong    -          -             -                -           done             done
-  line 28    CMD55       fault         fault        done       done         fault    -          -             -                fault       fault            done
-  line 28    CMD51       fault         fault        done       done         wrong    -          -             -                -           fault            done
-  line 28    REG 8       -             -            -          -            -        fault      -             -                -           -                -
-  line 29    CMD55       fault         fault        done       done         fault    -          -             -                fault       fault            done
-  line 29    CMD6        fault         fault        done       done         wrong    -          -             -                -           fault            done
-  line 33    CMD17       done          done         done       done         done     -          -             -                -           done             done
-  line 33    IN 1        -             -            -          -            -        done       -             -                -           -                -
+  line 10    CMD0        -
+  line 11    CMD8        fault: lost, answer lost, lost while busy
+  line 14    CMD55       done: lost, answer lost, not ready, error shown, refused, no APP_CMD, lost while busy, error while busy, OUT_OF_RANGE, ERASE_SEQ_ERROR, ILLEGAL_COMMAND
+  line 16    CMD41       wrong: answer lost; done: lost, not ready, lost while busy
+  line 24    CMD2        wrong: answer lost; done: lost, lost while busy
+  line 25    CMD3        wrong: refused, ERASE_SEQ_ERROR; done: lost, answer lost, not ready, error shown, lost while busy, error while busy, OUT_OF_RANGE, ILLEGAL_COMMAND
+  line 26    CMD9        done: lost, answer lost, lost while busy
+  line 27    CMD7        wrong: answer lost, refused, ERASE_SEQ_ERROR; done: lost, not ready, error shown, lost while busy, error while busy, OUT_OF_RANGE, ILLEGAL_COMMAND
+  line 28    CMD55       fault: lost, answer lost, refused, no APP_CMD, lost while busy, ERASE_SEQ_ERROR; done: not ready, error shown, error while busy, OUT_OF_RANGE, ILLEGAL_COMMAND
+  line 28    CMD51       wrong: refused, ERASE_SEQ_ERROR; fault: lost, answer lost, lost while busy; done: not ready, error shown, error while busy, OUT_OF_RANGE, ILLEGAL_COMMAND
+  line 28    REG 8       fault: cut, time passes
+  line 29    CMD55       fault: lost, answer lost, refused, no APP_CMD, lost while busy, ERASE_SEQ_ERROR; done: not ready, error shown, error while busy, OUT_OF_RANGE, ILLEGAL_COMMAND
+  line 29    CMD6        wrong: refused, ERASE_SEQ_ERROR; fault: lost, answer lost, lost while busy; done: not ready, error shown, error while busy, OUT_OF_RANGE, ILLEGAL_COMMAND
+  line 33    CMD17       done: lost, answer lost, not ready, error shown, refused, lost while busy, error while busy, OUT_OF_RANGE, ERASE_SEQ_ERROR, ILLEGAL_COMMAND
+  line 33    IN 1        done: cut, time passes
   without a mishap: done
-  47 done, 20 faults, 7 wrong, 0 stopped
+  with one: 11 wrong, 0 stopped, 23 fault, 66 done
   [1]
   $ printf 'card sd\nsend 0 { else { } }\ndone\n' > early.sdv; sdv try --each early.sdv $EXAMPLES/sd_byte.card new:16
-  line       event       command lost  answer lost  not ready  error shown  refused  phase cut  switch fails  CRC status lost  no APP_CMD  lost while busy  error while busy
-  line 2     CMD0        -             -            -          -            -        -          -             -                -           -                -
+  line 2     CMD0        -
   without a mishap: wrong
-  0 done, 0 faults, 0 wrong, 0 stopped
+  with one: 0 wrong, 0 stopped, 0 fault, 0 done
   [1]
 
 Blocks that the script gives, and the image of a file, which stays as it was.
@@ -51,11 +48,11 @@ Blocks that the script gives, and the image of a file, which stays as it was.
   $ head -c 524288 /dev/zero > image; cp image before; head -c 4096 /dev/urandom > blocks
   $ sdv try --each $EXAMPLES/production/sd_write_many.sdv $EXAMPLES/sd_block.card image --in blocks | tail -n 2; cmp image before
   without a mishap: done
-  52 done, 0 faults, 0 wrong, 14 stopped
+  with one: 0 wrong, 22 stopped, 0 fault, 68 done
   $ sdv try --each $EXAMPLES/production/sd_write_many.sdv $EXAMPLES/sd_block.card image > table || echo status $?; tail -n 2 table
   status 1
   without a mishap: stopped
-  0 done, 0 faults, 0 wrong, 49 stopped
+  with one: 0 wrong, 64 stopped, 0 fault, 0 done
 
 What is given is refused.
 
@@ -86,6 +83,6 @@ What is given is refused.
   $ sdv try --each early.sdv $EXAMPLES/sd_byte.card new:16 > /dev/full
   [2]
   $ sdv try --each early.sdv $EXAMPLES/sd_byte.card new:16 schedule; sdv try --each --lines early.sdv $EXAMPLES/sd_byte.card new:16
-  usage: --each goes with neither SCHEDULE, --out nor --lines: sdv try SCRIPT CARD IMAGE [SCHEDULE] [--in FILE] [--out FILE] [--each] [--lines]
-  usage: --each goes with neither SCHEDULE, --out nor --lines: sdv try SCRIPT CARD IMAGE [SCHEDULE] [--in FILE] [--out FILE] [--each] [--lines]
+  usage: --each goes with neither SCHEDULE, --out nor --lines: sdv try SCRIPT CARD IMAGE [SCHEDULE] [--in FILE] [--out FILE] [--each] [--only wrong] [--json] [--lines]
+  usage: --each goes with neither SCHEDULE, --out nor --lines: sdv try SCRIPT CARD IMAGE [SCHEDULE] [--in FILE] [--out FILE] [--each] [--only wrong] [--json] [--lines]
   [2]

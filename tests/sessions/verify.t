@@ -8,6 +8,9 @@ Verdicts on scripts: every fault of a text at once, every statement that is refu
       card     tran: byte addresses, block length 512
       mishap   none
       wrong    line 15: CMD17 comes to a card in tran state with byte addresses, and its argument is none of the block
+      then     CMD17 00000008 timeout
+      then     fault read
+      left     the card in tran state
   refused_block_address.sdv: refused (1 error)
   [1]
 
@@ -75,20 +78,20 @@ What a review finds: of data a warning, of names and tests a note, which does no
   $ sdv verify open.sdv
   open.sdv:16:1: warning: done may come before the write of line 15 is confirmed [write]
   open.sdv:17:1: note: no run comes to fault write [unreached]
-  open.sdv: accepted, at most 2008 commands (1 warning, 1 note)
+  open.sdv: accepted, at most 2008 commands, gives at most 1 block (1 warning, 1 note)
   [1]
   $ sdv verify --allow erase --allow write open.sdv
   open.sdv:17:1: note: no run comes to fault write [unreached]
-  open.sdv: accepted, at most 2008 commands (1 note)
+  open.sdv: accepted, at most 2008 commands, gives at most 1 block (1 note)
   $ sed 's/^done }.*/& # allow: write/' open.sdv > allowed.sdv
   $ sdv verify allowed.sdv
   allowed.sdv:17:1: note: no run comes to fault write [unreached]
-  allowed.sdv: accepted, at most 2008 commands (1 note)
+  allowed.sdv: accepted, at most 2008 commands, gives at most 1 block (1 note)
   $ sed 's/^done }.*/& # allow: erase/' open.sdv > other.sdv
   $ sdv verify other.sdv
   other.sdv:16:1: warning: done may come before the write of line 15 is confirmed [write]
   other.sdv:17:1: note: no run comes to fault write [unreached]
-  other.sdv: accepted, at most 2008 commands (1 warning, 1 note)
+  other.sdv: accepted, at most 2008 commands, gives at most 1 block (1 warning, 1 note)
   [1]
   $ sed 's/^nums cap/nums cap other/' $EXAMPLES/sd_bring_up.sdv > unread.sdv
   $ sdv verify unread.sdv
@@ -105,6 +108,9 @@ The run that breaks a script is kept where a folder is named, and sdv try repeat
       card     tran: byte addresses, block length 512
       mishap   none
       wrong    line 15: CMD17 comes to a card in tran state with byte addresses, and its argument is none of the block
+      then     CMD17 00000008 timeout
+      then     fault read
+      left     the card in tran state
       again    sdv try refused_block_address.sdv runs/1.card new:256 runs/1.schedule
   refused_block_address.sdv: refused (1 error)
   slips.sdv:5:5: error: `hd`: did you mean `hc`? [name]
@@ -138,15 +144,15 @@ The run that breaks a script is kept where a folder is named, and sdv try repeat
 Objects of JSON: one for each remark, and one for each file.
 
   $ sdv verify --json smallest.sdv refused_block_address.sdv columns.sdv unread.sdv none.sdv
-  {"commands":1,"errors":0,"file":"smallest.sdv","notes":0,"verdict":"accepted","warnings":0}
-  {"card":"tran: byte addresses, block length 512","column":1,"file":"refused_block_address.sdv","kind":"address","line":15,"point":24,"run":{"blocks":256,"card":"card sd\nversion 2\nunit byte\ncsize 63\ncmult 0\nrbl 9\nrca 4660\n","line":15,"schedule":"","trace":"CMD0 00000000 -\nCMD8 000001aa R7 000001aa\nCMD55 00000000 R1 00000120\nCMD41 40ff8000 R3 80ff8000\nCMD2 00000000 R2 005858534456202010000000010181\nCMD3 00000000 R6 12340500\nCMD9 12340000 R2 000000000009000fc0000000000000\nCMD7 12340000 R1 00000700\nCMD16 00000200 R1 00000900\nwrong CMD17 00000008\n"},"severity":"error","shape":"0000000000002804","text":"CMD17 at block 8 needs a card with block addresses"}
+  {"blocks":0,"commands":1,"errors":0,"file":"smallest.sdv","notes":0,"verdict":"accepted","warnings":0}
+  {"card":"tran: byte addresses, block length 512","column":1,"file":"refused_block_address.sdv","kind":"address","line":15,"point":24,"run":{"blocks":256,"card":"card sd\nversion 2\nunit byte\ncsize 63\ncmult 0\nrbl 9\nrca 4660\n","line":15,"schedule":"","then":"CMD17 00000008 timeout\nfault read\n","trace":"CMD0 00000000 -\nCMD8 000001aa R7 000001aa\nCMD55 00000000 R1 00000120\nCMD41 40ff8000 R3 80ff8000\nCMD2 00000000 R2 005858534456202010000000010181\nCMD3 00000000 R6 12340500\nCMD9 12340000 R2 000000000009000fc0000000000000\nCMD7 12340000 R1 00000700\nCMD16 00000200 R1 00000900\nwrong CMD17 00000008\n"},"severity":"error","shape":"0000000000002804","text":"CMD17 at block 8 needs a card with block addresses"}
   {"errors":1,"file":"refused_block_address.sdv","notes":0,"verdict":"refused","warnings":0}
   {"column":26,"file":"columns.sdv","kind":"name","line":3,"point":null,"severity":"error","text":"`hd`: a name is declared once, behind `flags` or `nums`, and used as that"}
   {"errors":1,"file":"columns.sdv","notes":0,"verdict":"no script","warnings":0}
   {"column":7,"file":"unread.sdv","kind":"unread","line":3,"point":5,"severity":"note","text":"hc is never read"}
   {"column":6,"file":"unread.sdv","kind":"unread","line":4,"point":21,"severity":"note","text":"cap is never read"}
   {"column":10,"file":"unread.sdv","kind":"unread","line":4,"point":null,"severity":"note","text":"other is never read"}
-  {"commands":2007,"errors":0,"file":"unread.sdv","notes":3,"verdict":"accepted","warnings":0}
+  {"blocks":0,"commands":2007,"errors":0,"file":"unread.sdv","notes":3,"verdict":"accepted","warnings":0}
   {"column":1,"file":"none.sdv","kind":"file","line":1,"point":null,"severity":"error","text":"the file cannot be opened or read, or is not UTF-8"}
   {"errors":1,"file":"none.sdv","notes":0,"verdict":"not read","warnings":0}
   cannot use none.sdv

@@ -78,21 +78,21 @@ Which word is wrong.
   usage: 4294967296 is no ARG (from 0 to 4294967295): sdv frame INDEX ARG
   usage: 0x40 is no INDEX (from 0 to 63): sdv frame INDEX ARG
   usage: 0 is one word too many: sdv frame INDEX ARG
-  usage: --out stands twice: sdv try SCRIPT CARD IMAGE [SCHEDULE] [--in FILE] [--out FILE] [--each] [--lines]
+  usage: --out stands twice: sdv try SCRIPT CARD IMAGE [SCHEDULE] [--in FILE] [--out FILE] [--each] [--only wrong] [--json] [--lines]
   usage: --svg stands twice: sdv audit KIND TRACE [--json] [--annotate] [--script SCRIPT] [--registers FILE] [--svg]
   usage: --json and --svg exclude each other: sdv audit KIND TRACE [--json] [--annotate] [--script SCRIPT] [--registers FILE] [--svg]
   usage: --json stands twice: sdv audit KIND TRACE [--json] [--annotate] [--script SCRIPT] [--registers FILE] [--svg]
   usage: TRACE is missing: sdv audit KIND TRACE [--json] [--annotate] [--script SCRIPT] [--registers FILE] [--svg]
   usage: --in needs FILE: sdv run SCRIPT CERT CARD IMAGE [SCHEDULE] [--in FILE] [--out FILE] [--registers FILE]
   [2]
-  $ for words in "frame 0x3f 0x100000000" "explain --no-fault=x a" "review a --json=x" "try a b c --in=e --in f" "try a b c d e --in=e"; do
+  $ for words in "frame 0x3f 0x100000000" "explain --no-fault=x a" "verify a --json=x" "try a b c --in=e --in f" "try a b c d e --in=e"; do
   >     sdv $words
   > done
   usage: 0x100000000 is no ARG (from 0 to 4294967295): sdv frame INDEX ARG
   usage: --no-fault=x is no option: sdv explain SCRIPT [CERT] [--why] [--dot] [--no-faults]
-  usage: --json=x is no option: sdv review SCRIPT [--json]
-  usage: --in=e stands twice: sdv try SCRIPT CARD IMAGE [SCHEDULE] [--in FILE] [--out FILE] [--each] [--lines]
-  usage: e is one word too many: sdv try SCRIPT CARD IMAGE [SCHEDULE] [--in FILE] [--out FILE] [--each] [--lines]
+  usage: --json=x is no option: sdv verify FILE.. [--json] [--no-run] [--save DIR] [--allow KIND]..
+  usage: --in=e stands twice: sdv try SCRIPT CARD IMAGE [SCHEDULE] [--in FILE] [--out FILE] [--each] [--only wrong] [--json] [--lines]
+  usage: e is one word too many: sdv try SCRIPT CARD IMAGE [SCHEDULE] [--in FILE] [--out FILE] [--each] [--only wrong] [--json] [--lines]
   [2]
   $ up=$EXAMPLES/sd_bring_up.sdv cert=$EXAMPLES/sd_bring_up.cert
   $ sdv emit $up $cert 9x; sdv emit $up $cert for; sdv emit $up $cert a-b; sdv emit -- $up $cert for; sdv batch sd "erase 0 1"; sdv batch sd "read 0"
@@ -106,11 +106,11 @@ Which word is wrong.
 
 An option is no value, and behind `--` there is none.
 
-  $ sdv drive $up $cert --in --out o; sdv frame -- -1 0; sdv explain -- --why a b; sdv review -- --json --json
+  $ sdv drive $up $cert --in --out o; sdv frame -- -1 0; sdv explain -- --why a b; sdv check -- --json b c
   usage: --in needs FILE: sdv drive SCRIPT CERT [--in FILE] [--out FILE] [--trace FILE] [--plain]
   usage: -1 is no INDEX (from 0 to 63): sdv frame INDEX ARG
   usage: b is one word too many: sdv explain SCRIPT [CERT] [--why] [--dot] [--no-faults]
-  usage: --json is one word too many: sdv review SCRIPT [--json]
+  usage: c is one word too many: sdv check SCRIPT CERT
   [2]
 
 Help is asked for behind the name of a command.
@@ -137,10 +137,10 @@ The page of a command.
       --out FILE: the file that takes the blocks that the script receives
       --registers FILE: the file that takes the bytes of the registers that come, one after another
   $ sdv try -h | tail -n 5; sdv drive -h | tail -n 3; sdv card -h | tail -n 2
-      SCHEDULE: a file with a digit from 0 to 7 for each event, or with mishaps by name: what the card does there
-      --in FILE: the blocks that the script gives, a whole number of them
       --out FILE: the file that takes the blocks that the script receives
       --each: prints how each run with one mishap ends
+      --only wrong: of these runs those alone that come to what is not allowed
+      --json: prints an object of JSON a line
       --lines: the trace says where the host changes its data lines
       --out FILE: the file that takes the blocks that the script receives
       --trace FILE: the file that takes the trace of the run
@@ -163,11 +163,13 @@ The page of a command.
 
 Commands that went say what stands in their places.
 
-  $ for command in graph sweep describe decode "print a" "graph --help"; do sdv $command; done
+  $ for command in graph sweep describe decode review refute "print a" "graph --help"; do sdv $command; done
   sdv graph: now sdv explain --dot
   sdv sweep: now sdv try --each
   sdv describe: now sdv card --describe
   sdv decode: now sdv audit --script
+  sdv review: now sdv verify
+  sdv refute: now sdv verify --save DIR
   sdv print: now a call of the library, print of sdv_script
   sdv graph: now sdv explain --dot
   [2]

@@ -1,12 +1,12 @@
 #!/usr/bin/env python3
-"""How many scripts that `sdv certify` refuses are refuted by `sdv refute`.
+"""Of how many scripts that `sdv certify` refuses `sdv verify` finds a run that breaks them.
 
 It takes scripts that tests/firmware/scripts.py writes and that have a certificate, without their numbers (with --numbers: as
-they are), and changes one to three places of each. COUNT (100) of those that `certify` then refuses are handed to `sdv refute`,
-with two seconds for each. The same words make the same scripts. Scripts of which nothing was found stay in /tmp/sdv-refute.
+they are), and changes one to three places of each. COUNT (100) of those that `certify` then refuses are handed to `sdv verify`,
+with two seconds for each. The same words make the same scripts. Scripts of which nothing was found stay in /tmp/sdv-breaks.
 
 With --capacity it takes each accepted script of examples/ in place of these, and raises one of its block addresses past the least
-capacity that passes the script's tests. It tells how long `refute` takes of each, and what it finds.
+capacity that passes the script's tests. It tells how long `verify` takes of each, and what it finds.
 """
 import glob
 import os
@@ -19,7 +19,7 @@ import time
 
 TOP = os.path.dirname(os.path.dirname(os.path.abspath(__file__)))
 SDV = os.environ.get("SDV", os.path.join(TOP, "crates/sdv/out/sdv"))
-KEPT = "/tmp/sdv-refute"
+KEPT = "/tmp/sdv-breaks"
 LIMIT = 2.0
 COMMANDS = {"sd": ["0", "2", "3", "7", "7 none", "9", "10", "12", "13", "16", "17 at by hc 0", "24 at by hc 0", "38", "51", "55"],
             "emmc": ["0", "1", "2", "3", "7", "7 none", "8", "9", "10", "12", "13", "16", "17 at by hc 0", "24 at by hc 0", "38 0"]}
@@ -116,7 +116,7 @@ def raised(text):
 
 
 def capacities():
-    """Tries `refute` of each accepted example with an address raised."""
+    """Tries `verify` of each accepted example with an address raised."""
     found, times = 0, []
     for path in sorted(glob.glob(os.path.join(TOP, "examples", "**", "*.sdv"), recursive=True)):
         if answer("certify", path).returncode != 0:
@@ -130,9 +130,10 @@ def capacities():
                 file.write(script)
             start = time.monotonic()
             try:
-                said = answer("refute", kept)
-                end = said.stdout.split("wrong\n")[1].split("\n")[0] if said.stdout.startswith("mishaps") else (said.stdout or said.stderr).split("\n")[0]
-                found += said.stdout.startswith("mishaps")
+                said = answer("verify", kept).stdout
+                wrong = re.search(r"^    wrong +(.*)$", said, re.M)
+                end = wrong[1] if wrong else said.split("\n")[0]
+                found += bool(wrong)
             except subprocess.TimeoutExpired:
                 end = "too long"
             times.append(time.monotonic() - start)
@@ -151,9 +152,9 @@ def main():
         for path, text in refused(folder, seed, "--numbers" in sys.argv):
             start = time.monotonic()
             try:
-                said = subprocess.run([SDV, "refute", path], capture_output=True, text=True, timeout=LIMIT)
-                end = ("path told" if said.stdout.startswith("no run") else "refuted" if said.returncode == 0 else "no path" if "no path" in said.stderr
-                       else "nothing found" if said.stderr.startswith("no run found") else sys.exit(said.stderr))
+                said = subprocess.run([SDV, "verify", path], capture_output=True, text=True, timeout=LIMIT).stdout
+                end = ("refuted" if "\n    wrong " in said else "path told" if "\nno run beside " in said
+                       else "no path" if "[unbroken]" in said else "nothing found")
             except subprocess.TimeoutExpired:
                 end = "too long"
             times.append(time.monotonic() - start)

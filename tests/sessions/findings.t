@@ -1,0 +1,364 @@
+What `verify` finds of accepted scripts. Each of these begins with a bring-up of an example.
+
+  $ (cd $EXAMPLES; sdv verify production/sd_write_many.sdv)
+  production/sd_write_many.sdv: accepted, at most 12028 commands, gives at most 24 blocks
+  $ (cd $EXAMPLES; sdv verify --json production/sd_write_many.sdv)
+  {"blocks":24,"commands":12028,"errors":0,"file":"production/sd_write_many.sdv","notes":0,"verdict":"accepted","warnings":0}
+  $ sdv batch sd "write 3 2 read 3 2" | sdv verify -
+  -: accepted, at most 3012 commands, gives at most 2 blocks
+  $ sdv batch emmc "write 3 2 read 3 2 write 9 1" | sdv verify -
+  -: accepted, at most 2014 commands, gives at most 3 blocks
+
+A write that a clean status in transfer state confirms, one that nothing confirms, and one whose error is passed over.
+
+  $ for kind in sd emmc; do up() { grep -v '^done' $EXAMPLES/${kind}_bring_up.sdv; echo 'if cap >= 16 { } else { fault small }'; cat; }
+  >   up << 'END' > confirmed.sdv
+  > send 24 at by hc 8 { clean { give { ok { loop 1000 { wait { ok { break } else { } } } else { fault busy }
+  >   send 13 { clean & state=tran { done } else { fault write } } } else { fault cut } } } else { fault lost } }
+  > fault write
+  > END
+  >   up << 'END' > open.sdv
+  > send 24 at by hc 8 { clean { give { ok { loop 1000 { wait { ok { break } else { } } } else { fault busy }
+  >   done } else { fault cut } } } else { fault lost } }
+  > fault write
+  > END
+  >   up << 'END' > doubt.sdv
+  > send 24 at by hc 8 { clean { give { ok { loop 1000 { wait { ok { break } else { } } } else { fault busy }
+  >   send 13 { state=tran { done } else { fault write } } } else { fault cut } } } else { fault lost } }
+  > fault write
+  > END
+  >   up << 'END' > ready.sdv
+  > send 24 at by hc 8 { clean { give { ok { loop 1000 { send 13 { clean & ready { break } else { } } } else { fault busy }
+  >   send 13 { state=tran { done } else { fault write } } } else { fault cut } } } else { fault lost } }
+  > fault write
+  > END
+  >   for name in confirmed open doubt ready; do echo $kind $name; sdv verify $name.sdv | grep -v 'no run comes to fault write'; done
+  > done
+  sd confirmed
+  confirmed.sdv: accepted, at most 2009 commands, gives at most 1 block (1 note)
+  sd open
+  open.sdv:16:3: warning: done may come before the write of line 15 is confirmed [write]
+  open.sdv: accepted, at most 2008 commands, gives at most 1 block (1 warning, 1 note)
+  sd doubt
+  doubt.sdv:16:26: warning: done may come where the write of line 15 was lost or cut, or its error passed over [write]
+  doubt.sdv: accepted, at most 2009 commands, gives at most 1 block (1 warning, 1 note)
+  sd ready
+  ready.sdv:16:26: warning: done may come where the write of line 15 was lost or cut, or its error passed over [write]
+  ready.sdv: accepted, at most 3009 commands, gives at most 1 block (1 warning, 1 note)
+  emmc confirmed
+  confirmed.sdv: accepted, at most 1009 commands, gives at most 1 block (1 note)
+  emmc open
+  open.sdv:15:3: warning: done may come before the write of line 14 is confirmed [write]
+  open.sdv: accepted, at most 1008 commands, gives at most 1 block (1 warning, 1 note)
+  emmc doubt
+  doubt.sdv:15:26: warning: done may come where the write of line 14 was lost or cut, or its error passed over [write]
+  doubt.sdv: accepted, at most 1009 commands, gives at most 1 block (1 warning, 1 note)
+  emmc ready
+  ready.sdv:15:26: warning: done may come where the write of line 14 was lost or cut, or its error passed over [write]
+  ready.sdv: accepted, at most 2009 commands, gives at most 1 block (1 warning, 1 note)
+
+A write that was cut, and given up for a done; and one that was left for another place.
+
+  $ for kind in sd emmc; do up() { grep -v '^done' $EXAMPLES/${kind}_bring_up.sdv; echo 'if cap >= 16 { } else { fault small }'; cat; }
+  >   up << 'END' > cut.sdv
+  > send 24 at by hc 8 { clean { give { ok { } else { } }
+  >   loop 1000 { send 13 { state=rcv { send 12 { else { } } } clean & state=tran { done } else { } } } else { fault stuck }
+  > } else { fault lost } }
+  > END
+  >   up << 'END' > other.sdv
+  > send 24 at by hc 8 { clean { give { ok { } else { } }
+  >   loop 1000 { send 13 { state=rcv { send 12 { else { } } } state=tran { break } else { } } } else { fault stuck }
+  > } else { fault lost } }
+  > send 24 at by hc 9 { clean { give { ok { loop 1000 { wait { ok { break } else { } } } else { fault busy }
+  >   send 13 { clean & state=tran { done } else { fault write } } } else { fault cut } } } else { fault lost } }
+  > fault write
+  > END
+  >   sdv verify cut.sdv; sdv verify --json other.sdv
+  > done
+  cut.sdv:16:81: warning: done may come where the write of line 15 was lost or cut, or its error passed over [write]
+  cut.sdv: accepted, at most 4008 commands, gives at most 1 block (1 warning)
+  {"column":34,"file":"other.sdv","kind":"write","line":19,"point":39,"severity":"warning","text":"done may come where line 18 left the write of line 15, which may have failed"}
+  {"column":1,"file":"other.sdv","kind":"unreached","line":20,"point":43,"severity":"note","text":"no run comes to fault write"}
+  {"blocks":2,"commands":4009,"errors":0,"file":"other.sdv","notes":1,"verdict":"accepted","warnings":1}
+  cut.sdv:15:81: warning: done may come where the write of line 14 was lost or cut, or its error passed over [write]
+  cut.sdv: accepted, at most 3008 commands, gives at most 1 block (1 warning)
+  {"column":34,"file":"other.sdv","kind":"write","line":18,"point":42,"severity":"warning","text":"done may come where line 17 left the write of line 14, which may have failed"}
+  {"column":1,"file":"other.sdv","kind":"unreached","line":19,"point":46,"severity":"note","text":"no run comes to fault write"}
+  {"blocks":2,"commands":3009,"errors":0,"file":"other.sdv","notes":1,"verdict":"accepted","warnings":1}
+  [1]
+
+A write command that was lost or refused, and stepped over: no blocks were given. And what leaves it: another write, an erase, a
+number of its address, a change of partition.
+
+  $ up() { sed '/^done/d; s/^nums cap/nums cap b/' $EXAMPLES/$1_bring_up.sdv; echo 'if cap >= 16 { let b = 8 } else { fault small }'; cat; }
+  $ wait='loop 1000 { wait { ok { break } else { } } } else { fault busy }'
+  $ back='loop 1000 { send 13 { state=rcv { send 12 { else { } } } ready & state=tran { break } else { } } } else { fault stuck }'
+  $ write() { echo "send 24 at by hc $1 { clean { give { ok { $wait send 13 { clean & state=tran { $2 } else { fault write } } } else { fault cut } } } else { $3 } }"; }
+  $ for kind in sd emmc; do
+  >   { write b '' ''; echo $back; echo done; } | up $kind | sdv verify -
+  >   { write b '' ''; echo $back; write 9 done 'fault lost'; echo $back; } | up $kind | sdv verify - | grep done
+  >   { write b '' ''; echo $back; echo 'let b = 8'; echo done; } | up $kind | sdv verify - | grep done
+  >   { echo 'loop 3 {'; write b 'break' ''; echo $back; echo '} else { fault lost }'; echo done; } | up $kind | sdv verify -
+  > done
+  -:17:1: warning: done may come where the write of line 15 was lost or cut, or its error passed over [write]
+  -: accepted, at most 4009 commands, gives at most 1 block (1 warning)
+  -:17:138: warning: done may come where line 17 left the write of line 15, which may have failed [write]
+  -:18:1: warning: done may come where line 17 left the write of line 15, which may have failed [write]
+  -: accepted, at most 8008 commands, gives at most 3 blocks
+  -:16:1: warning: done may come where the write of line 14 was lost or cut, or its error passed over [write]
+  -: accepted, at most 3009 commands, gives at most 1 block (1 warning)
+  -:16:138: warning: done may come where line 16 left the write of line 14, which may have failed [write]
+  -:17:1: warning: done may come where line 16 left the write of line 14, which may have failed [write]
+  -: accepted, at most 7008 commands, gives at most 3 blocks
+  $ { write b '' ''; echo $back; echo "send 32 at by hc 9 { clean { send 33 at by hc 9 { clean { send 38 { clean { $wait"
+  >   echo 'send 13 { clean & state=tran { done } else { fault e } } } else { fault e } } } else { fault e } } } else { fault e } }'; } | up sd | sdv verify - | grep done
+  -:18:32: warning: done may come where line 17 left the write of line 15, which may have failed [write]
+  $ { write b '' ''; echo $back; echo 'send 6 part.access 0 { clean { } else { fault part } }'; echo $wait; echo 'send 13 { clean & state=tran { done } else { fault part } }'
+  >   } | up emmc | sdv verify - | grep done
+  -:18:32: warning: done may come where line 16 left the write of line 14, which may have failed [write]
+
+A write that is sent once more after its blocks were given counts from there on.
+
+  $ { echo 'loop 2 {'; write b '' ''; echo $back; echo '} else { done }'; } | up sd | sdv verify -
+  -:18:10: warning: done may come where the write of line 16 was lost or cut, or its error passed over [write]
+  -: accepted, at most 6010 commands, gives at most 2 blocks (1 warning)
+  [1]
+
+A write that comes again after a number changed is another one.
+
+  $ { sed '/^done/d; s/^nums cap/nums cap b/' $EXAMPLES/sd_bring_up.sdv; cat << 'END'; } > again.sdv
+  > if cap >= 16 { } else { fault small }
+  > let b = 8
+  > loop 3 {
+  >   send 24 at by hc b { clean { give { ok { loop 1000 { wait { ok { break } else { } } } else { fault busy }
+  >     send 13 { clean & state=tran { done } else { } } } else { fault cut } } } else { fault lost } }
+  >   let b = 8
+  > } else { fault unwritten }
+  > END
+  $ sdv verify again.sdv; sed '19d' again.sdv | sdv verify -
+  again.sdv:18:36: warning: done may come where line 19 left the write of line 17, which may have failed [write]
+  again.sdv: accepted, at most 2013 commands, gives at most 3 blocks (1 warning)
+  -: accepted, at most 2013 commands, gives at most 3 blocks
+
+A number that is set between a command and its blocks, and more writes open at once than a review keeps apart.
+
+  $ up() { sed '/^done/d; s/^nums cap/nums cap b/' $EXAMPLES/sd_bring_up.sdv; echo 'if cap >= 16 { } else { fault small }'; cat; }
+  > up << 'END' > set.sdv
+  > let b = 8
+  > send 24 at by hc b { clean { let b = 9 give { ok { loop 1000 { wait { ok { break } else { } } } else { fault busy }
+  >   send 13 { clean & state=tran { done } else { fault write } } } else { fault cut } } } else { fault lost } }
+  > END
+  $ sdv verify set.sdv | head -1
+  set.sdv:17:34: warning: done may come where line 16 left the write of line 16, which may have failed [write]
+  $ for most in 8 9; do
+  >   awk -v most=$most 'BEGIN {
+  >     printf "loop 1 {"
+  >     for (i = 1; i <= most; i++) printf " if cap < %d00 { send 24 at by hc %d { clean { give { ok { break } else { fault c } } } else { fault l } } } else {", i, i
+  >     printf " fault big"; for (i = 1; i <= most; i++) printf " }"; print " } else { fault o }"
+  >     print "loop 9 { wait { ok { break } else { } } } else { fault b }"
+  >     print "send 13 { clean & state=tran { done } else { fault d } }" }' | up > $most.sdv; sdv verify $most.sdv | grep -v never
+  > done
+  8.sdv: accepted, at most 2009 commands, gives at most 1 block (1 note)
+  9.sdv:17:32: warning: it is not known whether each write is stored [write]
+  9.sdv: accepted, at most 2009 commands, gives at most 1 block (1 warning, 1 note)
+
+An erase, confirmed and not.
+
+  $ for kind in sd emmc; do up() { grep -v '^done' $EXAMPLES/${kind}_bring_up.sdv; echo 'if cap >= 16 { } else { fault small }'; cat; }
+  > case $kind in sd) first=32 last=33 erase=38;; *) first=35 last=36 erase='38 0';; esac
+  > for end in 'send 13 { clean & state=tran { done } else { fault erase } }' done; do
+  > up << END > erase.sdv
+  > send $first at by hc 8 { clean { send $last at by hc 9 { clean { send $erase { clean {
+  >   loop 1000 { wait { ok { break } else { } } } else { fault busy } $end
+  > } else { fault erase } } } else { fault erase } } } else { fault erase } }
+  > fault erase
+  > END
+  > sdv verify erase.sdv; done; done
+  erase.sdv:18:1: note: no run comes to fault erase [unreached]
+  erase.sdv: accepted, at most 2011 commands (1 note)
+  erase.sdv:16:68: warning: done may come before the erase of line 15 is confirmed [erase]
+  erase.sdv:18:1: note: no run comes to fault erase [unreached]
+  erase.sdv: accepted, at most 2010 commands (1 warning, 1 note)
+  erase.sdv:17:1: note: no run comes to fault erase [unreached]
+  erase.sdv: accepted, at most 1011 commands (1 note)
+  erase.sdv:15:68: warning: done may come before the erase of line 14 is confirmed [erase]
+  erase.sdv:17:1: note: no run comes to fault erase [unreached]
+  erase.sdv: accepted, at most 1010 commands (1 warning, 1 note)
+  [1]
+
+An erase that may have failed, and was left for another one.
+
+  $ for kind in sd emmc; do up() { grep -v '^done' $EXAMPLES/${kind}_bring_up.sdv; echo 'if cap >= 16 { } else { fault small }'; cat; }
+  > case $kind in sd) first=32 last=33 erase=38;; *) first=35 last=36 erase='38 0';; esac
+  > for end in 'clean & state=tran { } else { fault erase }' 'state=tran { } else { fault erase }'; do
+  > for place in 8 10; do
+  >   echo "send $first at by hc $place { clean { } else { fault erase } }"
+  >   echo "send $last at by hc $((place + 1)) { clean { } else { fault erase } }"
+  >   echo "send $erase { clean { } else { fault erase } }"
+  >   echo 'loop 1000 { wait { ok { break } else { } } } else { fault busy }'
+  >   if [ $place = 8 ]; then echo "send 13 { $end }"; else echo 'send 13 { clean & state=tran { done } else { fault erase } }'; fi
+  > done | up > left.sdv
+  > sdv verify left.sdv; done; done
+  left.sdv: accepted, at most 2015 commands
+  left.sdv:24:32: warning: done may come where line 20 left the erase of line 15, which may have failed [erase]
+  left.sdv: accepted, at most 2015 commands (1 warning)
+  left.sdv: accepted, at most 1015 commands
+  left.sdv:23:32: warning: done may come where line 19 left the erase of line 14, which may have failed [erase]
+  left.sdv: accepted, at most 1015 commands (1 warning)
+  [1]
+
+An erase is its first block, its last block and CMD38: it is made good by the same three, and not by the same CMD38 behind another
+pair, nor by another last block; and without CMD38 it is not done.
+
+  $ up() { sed '/^done/d; s/^nums cap/nums cap b/' $EXAMPLES/$1_bring_up.sdv; echo 'if cap >= 16 { let b = 8 } else { fault small }'; cat; }
+  $ for kind in sd emmc; do
+  >   case $kind in sd) first=32 last=33 erase=38;; *) first=35 last=36 erase='38 0';; esac
+  >   range() { echo "send $first at by hc $1 { clean { send $last at by hc $2 { clean { $3 } else { $4 } } } else { $4 } }"; }
+  >   erase() { echo "send $erase { clean { $wait send 13 { clean & state=tran { $1 } else { $2 } } } else { $2 } }"; }
+  >   { range b 9 '' 'fault range'; echo $wait; echo done; } | up $kind | sdv verify -
+  >   { echo 'loop 3 {'; range b 9 "$(erase done '')" ''; echo $wait; echo '} else { fault unerased }'; } | up $kind | sdv verify -
+  >   { echo 'loop 3 {'; range b 9 "$(erase done '')" ''; echo $wait; echo 'let b = 8'; echo '} else { fault unerased }'; } | up $kind | sdv verify -
+  >   { echo 'loop 3 {'; range 8 9 "$(erase done '')" ''; echo $wait; echo 'let b = b - 1'; echo '} else { fault unerased }'; } | up $kind | sdv verify - | grep done
+  >   { echo 'loop 3 {'; echo 'if b >= 8 {'; range 8 9 '' 'fault range'; echo '} else {'; range 10 11 '' 'fault range'; echo '}'
+  >     erase done 'let b = 0'; echo $wait; echo '} else { fault unerased }'; } | up $kind | sdv verify - | grep done
+  >   { echo "loop 3 { send $first at by hc 8 { clean {"; echo 'if b >= 8 {'; echo "send $last at by hc 9 { clean { } else { fault last } }"
+  >     echo '} else {'; echo "send $last at by hc 10 { clean { } else { fault last } }"; echo '}'
+  >     erase done 'let b = 0'; echo "} else { fault first } } $wait } else { fault unerased }"; } | up $kind | sdv verify - | grep done
+  > done
+  -:17:1: warning: done may come where the erase of line 15 was begun without CMD38 [erase]
+  -: accepted, at most 2009 commands (1 warning)
+  -: accepted, at most 2019 commands
+  -:16:173: warning: done may come where line 18 left the erase of line 16, which may have failed [erase]
+  -: accepted, at most 2019 commands (1 warning)
+  -:21:115: warning: done may come where line 17 left the erase of line 19, which may have failed [erase]
+  -:21:115: warning: done may come where line 19 left the erase of line 17, which may have failed [erase]
+  -:21:115: warning: done may come where line 17 left the erase of line 15, which may have failed [erase]
+  -:21:115: warning: done may come where line 19 left the erase of line 15, which may have failed [erase]
+  -:16:1: warning: done may come where the erase of line 14 was begun without CMD38 [erase]
+  -: accepted, at most 1009 commands (1 warning)
+  -: accepted, at most 1019 commands
+  -:15:175: warning: done may come where line 17 left the erase of line 15, which may have failed [erase]
+  -: accepted, at most 1019 commands (1 warning)
+  -:20:117: warning: done may come where line 16 left the erase of line 18, which may have failed [erase]
+  -:20:117: warning: done may come where line 18 left the erase of line 16, which may have failed [erase]
+  -:20:117: warning: done may come where line 16 left the erase of line 14, which may have failed [erase]
+  -:20:117: warning: done may come where line 18 left the erase of line 14, which may have failed [erase]
+
+A CMD6 that was lost leaves open which partition a write reaches.
+
+  $ { sed '/^send 6 part.access/,$d' $EXAMPLES/emmc_boot_read.sdv; cat << 'END'; } > boot.sdv; sdv verify boot.sdv
+  > loop 3 {
+  >   send 6 part.access 1 { else { } }
+  >   loop 1000 { wait { ok { break } else { } } } else { fault busy }
+  >   send 13 { clean & state=tran { break } else { } }
+  > } else { fault sw }
+  > send 24 at by hc 0 { clean { give { ok { loop 1000 { wait { ok { break } else { } } } else { fault busy }
+  >   send 13 { clean & state=tran { done } else { fault write } } } else { fault cut } } } else { fault lost } }
+  > fault write
+  > END
+  boot.sdv:7:6: note: cap is never read [unread]
+  boot.sdv:19:3: warning: part.access writes all of PARTITION_CONFIG, which clears the boot enable bits [boot-enable]
+  boot.sdv:23:1: warning: CMD24 may reach the user area or boot partition 1 [partition]
+  boot.sdv:25:1: note: no run comes to fault write [unreached]
+  boot.sdv: accepted, at most 1016 commands, gives at most 1 block (2 warnings, 2 notes)
+  [1]
+
+A write into another partition than the script may have asked for, as it seems by its statements alone.
+
+  $ { sed '/^done/d; s/^flags hc/flags hc a/' $EXAMPLES/emmc_bring_up.sdv; cat << 'END'; } > asked.sdv; sdv verify asked.sdv | grep CMD24
+  > if cap >= 16 { } else { fault small }
+  > if a { send 6 part.access 1 { else { } } } else { }
+  > send 24 at by hc 8 { clean { give { ok { loop 1000 { wait { ok { break } else { } } } else { fault busy }
+  >   send 13 { clean & state=tran { done } else { fault write } } } else { fault cut } } } else { fault lost } }
+  > fault write
+  > END
+  asked.sdv:15:1: warning: CMD24 may not reach the partition that was asked for last [partition]
+
+Statements that no run reaches, tests that come out one way, and names that are never read.
+
+  $ for kind in sd emmc; do
+  >   printf "card $kind\nflags a\nnums n\nsend 0 { else { } }\nif n < 1 { fault end } else { }\nset a\nfault end\n" | sdv verify -
+  > done
+  -:2:7: note: a is never read [unread]
+  -:5:1: note: this test always holds [one-way]
+  -:6:1: note: no run comes to set a [unreached]
+  -:7:1: note: no run comes to fault end [unreached]
+  -: accepted, at most 1 command (4 notes)
+  -:2:7: note: a is never read [unread]
+  -:5:1: note: this test always holds [one-way]
+  -:6:1: note: no run comes to set a [unreached]
+  -:7:1: note: no run comes to fault end [unreached]
+  -: accepted, at most 1 command (4 notes)
+  $ for kind in sd emmc; do
+  >   printf "card $kind\nnums n\nsend 0 { else { } }\nif n >= 1 { fault much } else { }\nfault end\n" | sdv verify -
+  > done
+  -:4:1: note: this test never holds [one-way]
+  -:4:13: note: no run comes to fault much [unreached]
+  -: accepted, at most 1 command (2 notes)
+  -:4:1: note: this test never holds [one-way]
+  -:4:13: note: no run comes to fault much [unreached]
+  -: accepted, at most 1 command (2 notes)
+  $ printf 'card sd\nsend 0 { else { } }\nfault end\n' | sdv verify -
+  -: accepted, at most 1 command
+
+A script at the limits is judged within two seconds of processor time: one of 4,000 commands, and one with writes that are open at
+3,200 points, of which each has many shapes and loops lead back to them.
+
+  $ awk 'BEGIN { print "card sd"; for (i = 0; i < 4000; i++) print "send 0{else{}}"; print "fault stop" }' > many.sdv
+  $ (ulimit -t 2; sdv verify many.sdv)
+  many.sdv: accepted, at most 4000 commands
+  $ for kind in sd emmc; do { grep -v '^done' $EXAMPLES/${kind}_bring_up.sdv; awk 'BEGIN {
+  >   print "if cap >= 16 { } else { fault small }"
+  >   for (i = 0; i < 4; i++)
+  >     print "send 24 at by hc " i "{clean{give{ok{loop 9{wait{ok{break}else{}}}else{fault b}send 13{state=tran{}else{}}}else{fault c}}}else{fault l}}"
+  >   print "send 24 at by hc 8{clean{give{ok{}else{}}}else{}}"
+  >   print "loop 3{loop 3{loop 3{loop 3{"
+  >   for (i = 0; i < 3200; i++) print "send 13{else{}}"
+  >   print "}else{}}else{}}else{}}else{}"
+  >   print "fault x" }'; } > shapes.sdv; (ulimit -t 2; sdv verify shapes.sdv) | sed 's/[0-9]* commands/N commands/'; done
+  shapes.sdv: accepted, at most N commands, gives at most 5 blocks
+  shapes.sdv: accepted, at most N commands, gives at most 5 blocks
+
+A number of blocks above 64 bits is not told.
+
+  $ { grep -v '^done' $EXAMPLES/sd_bring_up.sdv; cat << 'END'; } | sdv verify -
+  > if cap >= 70000 { } else { fault small }
+  > loop 65535 { loop 65535 { loop 65535 {
+  >   send 25 at by hc 8 count 65535 { else { fault lost } }
+  > } else { } } else { } } else { }
+  > fault end
+  > END
+  -: accepted, at most 2008 commands, gives at most 18445618199572250625 blocks
+  $ { grep -v '^done' $EXAMPLES/sd_bring_up.sdv; cat << 'END'; } | sdv verify -
+  > if cap >= 70000 { } else { fault small }
+  > loop 65535 { loop 65535 { loop 65535 { loop 65535 {
+  >   send 25 at by hc 8 count 65535 { else { fault lost } }
+  > } else { } } else { } } else { } } else { }
+  > fault end
+  > END
+  -: accepted, at most 2008 commands
+
+What certify refuses.
+
+  $ (cd $EXAMPLES; sdv verify refused_block_address.sdv)
+  refused_block_address.sdv:15:1: error: CMD17 at block 8 needs a card with block addresses [address]
+      card     tran: byte addresses, block length 512
+      mishap   none
+      wrong    line 15: CMD17 comes to a card in tran state with byte addresses, and its argument is none of the block
+      then     CMD17 00000008 timeout
+      then     fault read
+      left     the card in tran state
+  refused_block_address.sdv: refused (1 error)
+  [1]
+  $ printf 'card sd\nsend 16 @\n' | sdv verify --json -
+  {"column":9,"file":"-","kind":"token","line":2,"point":null,"severity":"error","text":"`@` cannot stand here; can stand here: `{`"}
+  {"column":1,"file":"-","kind":"syntax","line":3,"point":null,"severity":"error","text":"the end of the text: `else` is missing after line 2"}
+  {"errors":2,"file":"-","notes":0,"verdict":"no script","warnings":0}
+  [1]
+  $ sdv verify none.sdv
+  none.sdv:1:1: error: the file cannot be opened or read, or is not UTF-8 [file]
+  none.sdv: not read (1 error)
+  cannot use none.sdv
+  [2]
+  $ sdv verify $EXAMPLES/smallest.sdv > /dev/full; echo $?
+  2
