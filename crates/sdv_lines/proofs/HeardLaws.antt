@@ -1,30 +1,21 @@
 -- Answers of one line, and what is none.
-use Rattle.std.proofs.Common.{◌≡◌, ℕ, ◌≤◌, List, [], ◌∷◌, ◌++◌, length, Option, Some, None, refl, sym, ap, ◌∙◌, subst, inl, inr, append_assoc, arith, length-append}
+use Rattle.std.proofs.Common.{◌≡◌, ℕ, ◌≤◌, List, [], ◌∷◌, ◌++◌, length, Option, Some, None, refl, sym, ap, ◌∙◌, subst, append_assoc, arith}
 use Rattle.std.specs.Prelude.{IfSome}
-use Rattle.std.specs.Int.{w32, to_be_bytes}
 use Rattle.std.specs.Io.KnownBytes.{Consumes}
-use Rattle.hex.proofs.HexLemmas.{decode_of-ok}
 use Rattle.sdv_frames.specs.declared.command.Command.{Command}
 use Rattle.sdv_frames.specs.declared.reply.Expect.{Expect}
-use Rattle.sdv_frames.specs.declared.reply.Expect.TheVariants as expects
-use Rattle.sdv_frames.specs.declared.reply.Reply.{Reply}
-use Rattle.sdv_frames.specs.declared.reply.Reply.TheVariants.{R1, R2, R3, R6, R7}
 use Rattle.sdv_card.specs.declared.answer.Answer.{Answer}
-use Rattle.sdv_card.specs.declared.answer.Answer.TheVariants as answers
 use Rattle.sdv_card.specs.declared.answer.DataEnd.{DataEnd}
 use Rattle.sdv_card.specs.declared.answer.DataEnd.TheVariants as ends
 use Rattle.sdv_card.specs.declared.answer.WaitEnd.{WaitEnd}
-use Rattle.sdv_card.specs.declared.answer.WaitEnd.TheVariants as waits
 use Rattle.sdv_card.specs.Card.{Block}
 use Rattle.sdv_card.specs.Port.{Call, Exchange, DataIn, DataInRegister, DataOut, WaitWhileBusy}
 use Rattle.sdv_card.specs.ScriptEvent.{Return, Answered, BlocksIn, RegisterIn, BlocksOut, Waited}
-use Rattle.sdv_lines.specs.declared.line.TheConstants.{LONGEST}
-use Rattle.sdv_lines.specs.declared.words.TheConstants as words
 use Rattle.sdv_lines.specs.declared.fault.ProtocolFault.{ProtocolFault}
 use Rattle.sdv_lines.specs.declared.fault.ProtocolFault.TheVariants as faults
 use Rattle.sdv_trace.specs.Trace.{line_feed}
 use Rattle.sdv_lines.specs.Texts.{IsText, IsLine, lines_of, trimmed, trims}
-use Rattle.sdv_lines.specs.Answers.{IsReplyOf, IsWordOf, SaysLost, TellsReply, TellsAnswer, data_end_text, wait_end_text, IsAnswer}
+use Rattle.sdv_lines.specs.Answers.{TellsAnswer, data_end_text, wait_end_text, IsAnswer}
 use Rattle.sdv_lines.specs.Reading.{BeginsLong, ReadsNoLine}
 use Rattle.sdv_lines.specs.Streams.{Heard, HasNoAnswer, Unheard}
 

@@ -9,3 +9,4 @@ pub mod ServeLaws
 pub mod PartnerLaws
 pub mod PortLaws
 pub mod NoiseLaws
+pub mod SkippedLaws

@@ -1,10 +1,10 @@
 -- What a board says before its first answer: lines that have not the form of an answer. A reader may leave them out.
-use Rattle.std.specs.Prelude.{◌||◌, ◌-◌, ◌++◌, ◌==◌, nat_lt, is_ok, ℕ, List, [], ◌∷◌, length, Bool, true, false, Option, Some, None, option_map, if◌then◌else◌}
+use Rattle.std.specs.Prelude.{◌≡◌, ◌||◌, ◌-◌, ◌++◌, ◌==◌, nat_lt, is_ok, ℕ, List, [], ◌∷◌, length, Bool, false, Option, Some, None, option_map, if◌then◌else◌}
 use Rattle.hex.specs.Hex.{decode_sized}
 use Rattle.sdv_text.specs.Fronts.{after, is_word}
 use Rattle.sdv_lines.specs.declared.words.TheConstants as words
 use Rattle.sdv_lines.specs.declared.line.TheConstants.{LONGEST}
-use Rattle.sdv_lines.specs.Texts.{trimmed}
+use Rattle.sdv_lines.specs.Texts.{IsLine, trimmed}
 
 -- what follows the name of a response is the digits of so many bytes
 abbrev pub are_digits : (count : ℕ) → Option (List ℕ) → Bool
@@ -22,6 +22,10 @@ is_answer text =
     || is_response words.R1_CAME.now 4 text || is_response words.R2_CAME.now 15 text
     || is_response words.R3_CAME.now 4 text || is_response words.R6_CAME.now 4 text
     || is_response words.R7_CAME.now 4 text
+
+-- a line that a board says before its first answer
+abbrev pub IsNoise : List ℕ → Type 0
+IsNoise text = IsLine text × (is_answer (trimmed text) ≡ false)
 
 -- The bytes behind a front of a line, which is held, without the lines before the first answer, so many of them at most. What
 -- follows is left as it is: also behind so many lines, and where a line is longer than any of the protocol.

@@ -8,7 +8,7 @@
 //! - Each call of a `LinePort` writes exactly its request, reads exactly an answer, and returns what the answer says
 //!   (`LineSteps`). An answer `damaged` is heard as a time-out. Blanks at the end of a line say nothing (`trimmed`).
 //! - A port over a `Quieted` reader has no lines before the first answer (`specs/Noise.antt`): those that have not the form
-//!   of an answer to any request are left out, so many at most.
+//!   of an answer to any request are left out, so many at most. No answer is left out (`laws::skips_noise_alone`).
 //! - The request of a command announces nothing, or the data phase that the command table has for it (`specs/Due.antt`).
 //!   Whoever made the port says how many blocks CMD18 and CMD25 move, and over how many data lines; `serve` makes the same
 //!   call with and without an announcement.
