@@ -66,13 +66,8 @@ pub struct Illegality {
     pub after_step: Option<State>,
 }
 
-/// Adds why an event is not legal.
-pub fn put_illegality(
-    text: &mut Text,
-    illegality: Illegality,
-    action: &Action<'_>,
-    names: &Names<'_>,
-) -> Result<(), AllocError> {
+/// Adds the step of the card's own after which alone an event is not legal.
+fn put_own_step(text: &mut Text, illegality: Illegality) -> Result<(), AllocError> {
     if let Some(state) = illegality.after_step {
         let step = [
             "the card may go to ",
@@ -81,11 +76,41 @@ pub fn put_illegality(
         ];
         put_all(text, &step)?;
     }
-    match illegality.reason {
-        Reason::State(state) => {
-            put_statement(text, action, names)?;
-            put_all(text, &[" is not legal in ", state_word(state), " state"])
-        }
+    Ok(())
+}
+
+/// Adds why the event of a statement is not legal.
+pub fn put_illegality(
+    text: &mut Text,
+    illegality: Illegality,
+    action: &Action<'_>,
+    names: &Names<'_>,
+) -> Result<(), AllocError> {
+    put_own_step(text, illegality)?;
+    if let Reason::State(_) = illegality.reason {
+        put_statement(text, action, names)?;
+        put(text, " ")?;
+    }
+    put_rule(text, illegality.reason)
+}
+
+/// Adds why an event of this name is not legal.
+pub fn put_event_illegality(
+    text: &mut Text,
+    illegality: Illegality,
+    name: &str,
+) -> Result<(), AllocError> {
+    put_own_step(text, illegality)?;
+    if let Reason::State(_) = illegality.reason {
+        put_all(text, &[name, " "])?;
+    }
+    put_rule(text, illegality.reason)
+}
+
+/// Adds the rule that an event breaks; behind its name, where it is one of states.
+fn put_rule(text: &mut Text, reason: Reason) -> Result<(), AllocError> {
+    match reason {
+        Reason::State(state) => put_all(text, &["is not legal in ", state_word(state), " state"]),
         Reason::PresetCount(count) => put_numbered(
             text,
             "the card has the preset count ",

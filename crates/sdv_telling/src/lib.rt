@@ -17,12 +17,12 @@ mod visit;
 mod way;
 
 pub use guards::put_guards;
-pub use illegality::{Illegality, Reason};
+pub use illegality::{Illegality, Reason, put_event_illegality};
 pub use listing::{put_listing, put_place};
 pub use quoted::put_quoted;
 pub use refused::{Beside, Why, put_reason, put_refused, refused_word};
 pub use shapes::{lines_words, numbered_state_word, put_card, put_shape, state_word};
-pub use statements::{put_name, put_statement};
+pub use statements::{put_name, put_seen, put_statement};
 pub use text::{Text, pad, put, put_all, put_number, put_numbered, put_with_number};
 pub use visit::Visit;
 pub use way::put_way;

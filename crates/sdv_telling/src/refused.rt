@@ -7,7 +7,7 @@ use crate::listing::{put_numbers, put_place};
 use crate::shapes::put_shape;
 use crate::statements::{put_address, put_statement};
 use crate::text::{Text, put, put_all, put_with_number};
-use sdv_card::{Partition, Shape};
+use sdv_card::{Partition, Shape, State};
 use sdv_facts::Numbers;
 use sdv_graph::{Action, Address, Graph, Names, Unit};
 use std::alloc::AllocError;
@@ -119,6 +119,15 @@ pub fn refused_word(action: &Action<'_>, why: Why, shape: Shape) -> &'static str
     }
 }
 
+/// What ends the state in which a card may be at `done`.
+fn end_words(state: State) -> &'static str {
+    match state {
+        State::Data | State::Rcv => "; CMD12 ends a transfer",
+        State::Prg => "; a wait ends the busy time",
+        _ => "",
+    }
+}
+
 /// Adds why the statement of a point is refused beside a card, on a part of a line that names the statement.
 pub fn put_reason(
     text: &mut Text,
@@ -179,9 +188,12 @@ fn put_why(
         Why::Illegal(Some(illegality)) => put_illegality(text, illegality, action, names),
         Why::Illegal(None) => Ok(()),
         Why::Address => put_misfit(text, action, beside, names),
-        Why::EndState => put(
+        Why::EndState => put_all(
             text,
-            "at done the card has to be in tran state; CMD12 ends a transfer, and a wait the busy time",
+            &[
+                "at done the card has to be in the transfer state",
+                end_words(beside.shape.state()),
+            ],
         ),
     }
 }

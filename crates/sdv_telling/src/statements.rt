@@ -241,8 +241,8 @@ pub fn put_statement(
     }
 }
 
-/// Adds what was seen of the event of a statement.
-pub fn put_seen(text: &mut Text, action: &Action<'_>, seen: Seen) -> Result<(), AllocError> {
+/// Adds what was seen of an event. The word is for a data phase or a wait that did not end well.
+pub fn put_seen(text: &mut Text, seen: Seen, not_ok: &str) -> Result<(), AllocError> {
     match seen {
         Seen::Sent => put(text, "-"),
         Seen::TimeOut => put(text, "timeout"),
@@ -264,7 +264,7 @@ pub fn put_seen(text: &mut Text, action: &Action<'_>, seen: Seen) -> Result<(), 
             ],
         ),
         Seen::Ok => put(text, "ok"),
-        Seen::NotOk => put(text, cut_word(action)),
+        Seen::NotOk => put(text, not_ok),
     }
 }
 
@@ -287,7 +287,7 @@ fn block_words(block: Option<bool>) -> &'static str {
 }
 
 /// How a data phase or a wait is said not to have ended well.
-fn cut_word(action: &Action<'_>) -> &'static str {
+pub fn cut_word(action: &Action<'_>) -> &'static str {
     match action {
         Action::Phase(Phase::Wait, _, _) => "late",
         _ => "cut",

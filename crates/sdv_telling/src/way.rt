@@ -4,7 +4,7 @@ ghost use Rattle.std.specs.Prelude.{◌<◌, length};
 
 use crate::cases::put_taken;
 use crate::shapes::put_shape;
-use crate::statements::{put_seen, put_statement};
+use crate::statements::{cut_word, put_seen, put_statement};
 use crate::text::{Text, pad, put, put_numbered};
 use crate::visit::Visit;
 use sdv_graph::{Action, Change, Condition, Graph};
@@ -68,7 +68,7 @@ fn put_event(
     };
     put_step(text, graph, before.point)?;
     pad(text, start, 37)?;
-    put_seen(text, &graph.point(before.point).action, seen)?;
+    put_seen(text, seen, cut_word(&graph.point(before.point).action))?;
     pad(text, start, 74)?;
     put(text, "then ")?;
     put_shape(text, after.shape, &graph.names().flags)?;
