@@ -58,6 +58,10 @@ pub fn faults_of(alloc: Global, text: &str, fault: ScriptFault) -> Result<TextFa
         let Some(mended) = next else {
             break;
         };
+        // whether a run can come to the end is not to be seen in a text of which a part was guessed
+        if mended.next.kind == FaultKind::NoEnd {
+            break;
+        }
         let told = told_of(alloc, &mended.text, mended.next)?;
         further.push(text_fault(alloc, mended.next, &told)?)?;
         next = mended_by(alloc, &mended.text, mended.next, &told)?;
