@@ -1,5 +1,5 @@
 -- No line that is printed ends with white space, or is a comment.
-use Rattle.std.proofs.Common.{lit<, ◌≡◌, ℕ, zero, suc, ◌<◌, ◌-◌, ◌*◌, Bool, true, false, not, ◌&&◌, ◌/◌, ◌%◌, List, [], ◌∷◌, ◌++◌, length, take, reverse, Ok, decimal, refl, sym, ap, subst, ◌∙◌, arith}
+use Rattle.std.proofs.Common.{lit<, ◌≡◌, ℕ, zero, suc, ◌<◌, ◌-◌, Bool, true, false, not, ◌&&◌, ◌/◌, ◌%◌, List, [], ◌∷◌, ◌++◌, length, take, reverse, Ok, decimal, refl, sym, ap, subst, ◌∙◌, arith}
 use Rattle.std.specs.Prelude.{codes, slice_index}
 use Rattle.std.specs.Char.{is_ascii_whitespace}
 use Rattle.std.specs.List.{prefix_len, suffix_len}
@@ -7,7 +7,6 @@ use Rattle.std.proofs.Math.Seq.{take-length}
 use Rattle.std.proofs.lemmas.Fmt.{decimal_digit}
 use Rattle.std.proofs.lemmas.List.{reverse-append}
 use Rattle.hex.specs.Hex.{lower_digits, encode_with, encode_lower}
-use Rattle.hex.proofs.HexLemmas.{length-encode_with}
 use Rattle.sdv_card.specs.declared.answer.Answer.{Answer}
 use Rattle.sdv_card.specs.declared.answer.Answer.TheVariants.{Sent, TimeOut, Reply as Replied, Damaged}
 use Rattle.sdv_card.specs.declared.answer.DataEnd.{DataEnd}
@@ -21,7 +20,6 @@ use Rattle.sdv_audit.specs.declared.line.TraceLine.TheVariants.{Exchange, Blocks
 use Rattle.sdv_audit.specs.declared.texts.Said.TheVariants.{Line}
 use Rattle.sdv_audit.specs.Spelling.{IsLine, IsAnswerTo, line_text}
 use Rattle.sdv_audit.specs.Texts.{is_comment, line_said, read_said, said_of, trimmed}
-use Rattle.sdv_audit.specs.Reading.{read_line}
 use Rattle.sdv_card.proofs.Members.{and_left, and_right}
 use Rattle.sdv_audit.proofs.Courses.{not_is}
 use Rattle.sdv_audit.proofs.Printed.{lines_are_read}

@@ -1,7 +1,6 @@
 -- Texts that have notes, one behind another.
 use Rattle.std.proofs.Common.{◌≡◌, ℕ, List, [], ◌∷◌, ◌++◌, Option, refl, sym, ap, subst, ◌∙◌, append_assoc, ◌+◌, ◌<◌, length, drop, get_or, add-one, drop-cons}
 use Rattle.std.proofs.lemmas.List.{append-nil}
-use Rattle.std.specs.Io.KnownBytes.{Appends}
 use Rattle.sdv_text.proofs.WrittenLaws.{appends_more, appends_none}
 use Rattle.sdv_registers.specs.declared.kind.Kind.{Kind}
 use Rattle.sdv_telling.specs.Statements.{Text}

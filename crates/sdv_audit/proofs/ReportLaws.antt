@@ -1,5 +1,5 @@
 -- The notes on a line are those of the course at which the audit stands.
-use Rattle.std.proofs.Common.{◌≡◌, ℕ, true, refl, ap, subst, ◌∙◌}
+use Rattle.std.proofs.Common.{◌≡◌, ℕ, refl, ap, subst, ◌∙◌}
 use Rattle.sdv_registers.specs.declared.kind.Kind.{Kind}
 use Rattle.sdv_card.specs.Lists.{May}
 use Rattle.sdv_telling.specs.Statements.{Text}

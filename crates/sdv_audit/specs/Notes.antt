@@ -7,7 +7,7 @@ use Rattle.sdv_telling.specs.Statements.{Text}
 use Rattle.sdv_audit.specs.declared.audit.Findings.{Findings}
 use Rattle.sdv_audit.specs.declared.line.TraceLine.{TraceLine}
 use Rattle.sdv_audit.specs.declared.line.TraceLine.TheVariants.{Lines}
-use Rattle.sdv_audit.specs.declared.notes.TheConstants.{TOPICS, BEGINS_ANEW, IS_OUTSIDE, MAY_BE_IN, NO_CARD, NO_HOST, BEYOND_THE, NOT_FOLLOWED}
+use Rattle.sdv_audit.specs.declared.notes.TheConstants.{BEGINS_ANEW, IS_OUTSIDE, MAY_BE_IN, NO_CARD, NO_HOST, BEYOND_THE, NOT_FOLLOWED}
 use Rattle.sdv_audit.specs.declared.notes.Topic.{Topic}
 use Rattle.sdv_audit.specs.declared.notes.Topic.TheVariants as topics
 use Rattle.sdv_audit.specs.declared.style.Style.{Style}

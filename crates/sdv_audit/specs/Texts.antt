@@ -1,5 +1,5 @@
 -- THE TEXTS of a trace, between line feeds: what each says, and the lines that they tell, with their numbers.
-use Rattle.std.specs.Prelude.{ℕ, List, [], ◌∷◌, ◌++◌, ◌-◌, ◌||◌, Bool, true, false, length, take, codes, Option, Some, None, Result, Ok, Err, is_some, if◌then◌else◌}
+use Rattle.std.specs.Prelude.{ℕ, List, [], ◌∷◌, ◌++◌, ◌-◌, ◌||◌, Bool, true, length, take, codes, Result, Ok, Err, is_some, if◌then◌else◌}
 use Rattle.std.specs.List.{suffix_len}
 use Rattle.std.specs.Char.{is_ascii_whitespace}
 use Rattle.sdv_text.specs.Fronts.{after, is_end}

@@ -33,6 +33,7 @@ mod line;
 mod notes;
 mod possible;
 mod reading;
+mod reasons;
 mod report;
 mod seen;
 mod shapes;

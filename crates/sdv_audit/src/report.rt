@@ -13,7 +13,7 @@ use crate::style::{Style, Tally};
 use crate::texts::Count;
 use crate::turn::{Deed, Told, Turn};
 use crate::words::{Before, put_standing};
-use sdv_card::{Answer, Event};
+use sdv_card::{Answer, Event, Shape};
 use sdv_frames::Reply;
 use sdv_registers::Kind;
 use sdv_telling::Text;
@@ -61,7 +61,7 @@ impl Report {
     }
 
     /// What is known before the next line.
-    fn before<'s>(&self, states: &'s [u8]) -> Before<'s> {
+    fn before<'s>(&self, states: &'s [u8], shapes: &'s [Shape]) -> Before<'s> {
         Before {
             kind: self.kind,
             csd: self.audit.known().csd,
@@ -70,6 +70,7 @@ impl Report {
             behind: self.tally.outside != 0,
             stretch: self.tally.stretch,
             states,
+            shapes,
         }
     }
 
@@ -92,7 +93,8 @@ impl Report {
             line: &told.line,
         };
         let states = self.states()?;
-        let before = self.before(&states);
+        let shapes = Vec::from_slice(self.alloc, self.audit.shapes())?;
+        let before = self.before(&states, &shapes);
         let waits = self.audit.waits();
         let found = self.audit.next(told)?;
         let text = notes_text(at, &found, &before, &TOPICS)?;

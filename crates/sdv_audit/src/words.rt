@@ -3,6 +3,7 @@
 use crate::audit::Findings;
 use crate::line::TraceLine;
 use crate::notes::Topic;
+use crate::reasons::{Known, put_answers, put_illegal};
 use crate::turn::Turn;
 use sdv_card::Shape;
 use sdv_registers::{Csd, Kind};
@@ -27,6 +28,8 @@ pub struct Before<'a> {
     pub stretch: u64,
     /// The states in which a card may be, in words, where they are asked for.
     pub states: &'a [u8],
+    /// The shapes at which a card may stand.
+    pub shapes: &'a [Shape],
 }
 
 /// The words of the note on a topic.
@@ -45,8 +48,8 @@ pub fn words(
             put_stretch(&mut text, before.stretch)?;
             return Ok(text);
         }
-        Topic::Reckless => put_reckless(&mut text, found.reckless, before.bounded)?,
-        Topic::Unanswered => put_line_answer(&mut text, line)?,
+        Topic::Reckless => put_reckless(&mut text, found, before)?,
+        Topic::Unanswered => put_unanswered(&mut text, alloc, line, found, before)?,
         Topic::Length => put_due(&mut text, &found.turn)?,
         Topic::Beyond => put_capacity(&mut text, before)?,
     }
@@ -69,22 +72,41 @@ fn put_stretch(text: &mut Text, stretch: u64) -> Result<(), AllocError> {
     )
 }
 
-/// Adds the shape at which a card may stand, and what the verdict rests on where it is not sure.
-fn put_reckless(text: &mut Text, reckless: Option<Shape>, bounded: bool) -> Result<(), AllocError> {
-    let Some(shape) = reckless else {
+/// Adds the shape at which a card may stand, why the event is not legal there, and what the verdict rests on where it is not
+/// sure.
+fn put_reckless(text: &mut Text, found: &Findings, before: &Before<'_>) -> Result<(), AllocError> {
+    let Some(shape) = found.reckless else {
         return Ok(());
     };
     match shape.decode() {
         Some(fields) => put_card(text, &fields)?,
         None => put(text, "no state of a card")?,
     }
-    if bounded {
+    put_illegal(text, before.kind, &found.turn, shape)?;
+    if before.bounded {
         return Ok(());
     }
     put(
         text,
         " (an address before it may lie on no card, or a count before it is not told)",
     )
+}
+
+/// Adds the answer of a line that no card gives, and what cards answer.
+fn put_unanswered(
+    text: &mut Text,
+    alloc: Global,
+    line: &TraceLine,
+    found: &Findings,
+    before: &Before<'_>,
+) -> Result<(), AllocError> {
+    put_line_answer(text, line)?;
+    let known = Known {
+        kind: before.kind,
+        csd: before.csd,
+        shapes: before.shapes,
+    };
+    put_answers(text, alloc, known, &found.turn, line)
 }
 
 /// Adds the answer of a line, if it has one.
