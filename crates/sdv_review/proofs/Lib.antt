@@ -1,4 +1,6 @@
 pub mod ListLaws
+pub mod LayoutLaws
+pub mod InputLaws
 pub mod FoundLaws
 pub mod ComesLaws
 pub mod MeaningLaws

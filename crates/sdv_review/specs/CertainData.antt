@@ -1,7 +1,7 @@
--- THAT THE DATA IS THERE where a run is done: the blocks of each write command, CMD24 or CMD25, stand on the card as a
--- write phase gave them, in the place that the script asked for, unless a later write phase reaches one of them or an erase
--- follows in their partition. Where a command is sent again to the same place, that is the phase of the later one.
-use Rattle.std.specs.Prelude.{◌≡◌, ◌⊎◌, ◌+◌, ◌<◌, ℕ, Bool, true, List, [], ◌∷◌, length, take, drop, if◌then◌else◌}
+-- THAT THE DATA IS THERE where a run is done: each block of a write command, CMD24 or CMD25, stands on the card as a write
+-- phase gave it, in the place that the script asked for, unless a later write phase reaches this block or an erase follows
+-- in its partition. Where a command is sent again to the same place, that is the phase of the later one.
+use Rattle.std.specs.Prelude.{◌≡◌, ◌⊎◌, ◌+◌, ◌<◌, ℕ, Bool, true, List, [], ◌∷◌, length, take, drop, slice_get, Some, if◌then◌else◌}
 use Rattle.sdv_card.specs.declared.answer.DataEnd.TheVariants.{Ok}
 use Rattle.sdv_card.specs.declared.event.Ask.{Ask}
 use Rattle.sdv_card.specs.declared.state.Partition.{Partition}
@@ -81,14 +81,20 @@ aim_after event a = a
 abbrev pub no_aim : Aim
 no_aim = record { partition = User; first = 0 }
 
-abbrev pub given_to : Aim → List Block → Given
-given_to a blocks = record { partition = a.partition; first = a.first; blocks = blocks }
+-- one of the blocks that are given to it
+abbrev pub block_to : Aim → (place : ℕ) → Block → Given
+block_to a place block = record { partition = a.partition; first = a.first + place; blocks = block ∷ [] }
+
+-- each of them is kept, whatever becomes of the others
+abbrev pub EachIsKept : Aim → List Block → (u : Card) (es : List Pair) (last : Card) → StepsOf u es last → Type 0
+EachIsKept a blocks u es last steps =
+    (place : ℕ) (block : Block) → slice_get blocks place ≡ Some block → IsKept (block_to a place block) u es last steps
 
 -- a write phase that ended well gave so many blocks, and they are kept from there on
 abbrev pub GaveWell : Aim → (count : ℕ) → ScriptEvent → Return → (u : Card) (es : List Pair) (last : Card) → StepsOf u es last
     → Type 0
 GaveWell a count (GiveBlocks lines blocks) (BlocksOut Ok) u es last steps =
-    (length blocks ≡ count) × IsKept (given_to a blocks) u es last steps
+    (length blocks ≡ count) × EachIsKept a blocks u es last steps
 GaveWell a count event returned u es last steps = ⊥
 
 -- some write phase of the run did
@@ -99,7 +105,7 @@ IsWritten a count c (p ∷ es) last steps =
 
 -- the blocks of a write command are written after it, and those of a write phase are kept
 abbrev pub KeptAfter : Aim → ScriptEvent → (u : Card) (es : List Pair) (last : Card) → StepsOf u es last → Type 0
-KeptAfter a (GiveBlocks lines blocks) u es last steps = IsKept (given_to a blocks) u es last steps
+KeptAfter a (GiveBlocks lines blocks) u es last steps = EachIsKept a blocks u es last steps
 KeptAfter a (SendCommand ask position argument) u es last steps =
     is_write ask ≡ true → IsWritten (aim_after (SendCommand ask position argument) a) ask.count u es last steps
 KeptAfter a event u es last steps = Unit {0}

@@ -2,7 +2,7 @@
 use Rattle.std.specs.Prelude.{codes}
 use Rattle.sdv_telling.specs.Statements.{Text}
 use Rattle.sdv_review.specs.declared.finding.Matter.{Matter}
-use Rattle.sdv_review.specs.declared.finding.Matter.TheVariants.{Unreached, Partition, BootEnable, OneWay, Unread, Misplaced, Unstored}
+use Rattle.sdv_review.specs.declared.finding.Matter.TheVariants.{Unreached, Partition, BootEnable, OneWay, Unread, Misplaced, Shifted, Unstored}
 use Rattle.sdv_review.specs.declared.status.Status.{Status}
 use Rattle.sdv_review.specs.declared.status.Status.TheVariants.{EraseOpen, EraseFailed, EraseLeft}
 
@@ -19,4 +19,5 @@ kind_word BootEnable = codes "boot-enable"
 kind_word (OneWay holds) = codes "one-way"
 kind_word (Unread name) = codes "unread"
 kind_word (Misplaced index) = codes "partition"
+kind_word Shifted = codes "input-shifts"
 kind_word (Unstored status) = status_kind status

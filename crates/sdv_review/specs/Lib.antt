@@ -11,4 +11,5 @@ pub mod Carried
 pub mod Weights
 pub mod Writes
 pub mod CertainData
+pub mod Input
 pub mod Confirmed

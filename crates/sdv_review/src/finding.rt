@@ -37,6 +37,8 @@ pub enum Matter {
     Unread(Name),
     /// The command with this index meets one partition, and another one may have been asked for last.
     Misplaced(u8),
+    /// Runs may give different numbers of blocks before this write phase, so it may take other blocks of the input.
+    Shifted,
     /// At this `done` a write has this status, by which it may not be stored.
     Unstored(Status),
 }

@@ -28,6 +28,7 @@ pub fn kind_word(matter: Matter) -> &'static str
         Matter::OneWay(_) => "one-way",
         Matter::Unread(_) => "unread",
         Matter::Misplaced(_) => "partition",
+        Matter::Shifted => "input-shifts",
         Matter::Unstored(status) => status_kind(status),
     }
 }

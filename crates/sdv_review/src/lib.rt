@@ -1,6 +1,7 @@
 //! What a certificate leaves open: a review of an accepted script.
 //!
-//! Begin at `find` and `find_writes`, and at `specs/Findings.antt` and `specs/Writes.antt`, which say what is found.
+//! Begin at `find`, `find_writes` and `find_shifts`, and at `specs/Findings.antt`, `specs/Writes.antt` and
+//! `specs/Input.antt`, which say what is found.
 //! `specs/Meaning.antt` and `specs/CertainData.antt` say what findings, and none, mean for every run beside any card
 //! of the profile; `specs/Comes.antt` when a run comes to a point.
 //!
@@ -15,8 +16,11 @@
 //!   address has no finding of partitions, it meets in every run the partition that is told (`PartitionsAreTold`).
 //! - `find_writes`: where nothing is found of partitions, writes and erases, the data is there (`CertainData`;
 //!   `docs/PROVED.md`).
-//! - There may be less than is found: statuses are joined where paths meet, and a set with more than eight holds only
-//!   that nothing is known. The words of a finding are tested.
+//! - `find_shifts`: where nothing is found at a write phase, any two runs that come there gave as many blocks of the input
+//!   before (`InputsAreTold` of `specs/Input.antt`).
+//! - There may be less than is found: statuses are kept apart by the shapes of a point (`layout`), which have the flags of
+//!   the script, and joined where paths come to one shape. A set with more than eight holds only that nothing is known,
+//!   and so it is above 66,666 shapes in all. The words of a finding are tested.
 #![tactic(auto)]
 
 mod asked;
@@ -24,8 +28,10 @@ mod conditions;
 mod finding;
 mod finds;
 mod given;
+mod input;
 mod kinds;
 pub mod laws;
+mod layout;
 mod matters;
 mod names;
 mod partitions;
@@ -39,6 +45,7 @@ mod writes;
 pub use finding::{Finding, Matter, Name, Reach};
 pub use finds::find;
 pub use given::most_of_block;
+pub use input::{Tally, find_shifts};
 pub use kinds::kind_word;
 pub use status::{Erase, ErasePart, Status};
 pub use words::matter_words;

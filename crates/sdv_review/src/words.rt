@@ -121,6 +121,10 @@ pub fn matter_words(
             u64::from(index),
             " may not reach the partition that was asked for last",
         )?,
+        Matter::Shifted => put(
+            &mut text,
+            "runs may give different numbers of blocks before this one, as where a write is tried again",
+        )?,
         Matter::Unstored(status) => put_status(&mut text, graph, status)?,
     }
     Ok(text)
