@@ -26,7 +26,7 @@ pub fn is_warning(matter: Matter) -> bool
     match matter {
         Matter::Partition(_, _) | Matter::BootEnable | Matter::Misplaced(_) | Matter::Unstored(_) =>
             true,
-        Matter::Unreached | Matter::OneWay(_) | Matter::Unread(_) => false,
+        Matter::Unreached | Matter::OneWay(_) | Matter::Unread(_) | Matter::Shifted => false,
     }
 }
 

@@ -1,17 +1,18 @@
 //! The verdict on a text.
 
-ghost use Rattle.std.specs.Prelude.{IfOk};
+ghost use Rattle.std.specs.Prelude.{◌≡◌, IfOk};
 ghost use Rattle.sdv_script.specs.OneGraph.{IsGraphOfScript};
 ghost use Rattle.sdv_script.specs.Shown.{shown};
+ghost use Rattle.sdv_facts.specs.Bounds.{bound_of};
 ghost use Rattle.sdv_facts.specs.Closed.{Closed};
-ghost use Rattle.sdv_verdict.specs.Judged.{IsAcceptance, IsRefusal, IsVerdict};
+ghost use Rattle.sdv_verdict.specs.Judged.{DataFound, IsAcceptance, IsRefusal, IsVerdict};
 
 use sdv_certify::{CertifyFault, ScriptSurvey, survey};
 use sdv_check::check;
 use sdv_explain::{Failure, failures_of};
 use sdv_facts::Certificate;
 use sdv_graph::Graph;
-use sdv_review::{Finding, find, find_writes, most_of_block};
+use sdv_review::{Finding, find, find_shifts, find_writes, most_of_block};
 use sdv_script::Script;
 use std::alloc::{AllocError, Global};
 
@@ -37,7 +38,7 @@ pub enum Verdict {
         given: Option<u64>,
         /// What a review finds of points and of names.
         found: Vec<Finding>,
-        /// What it finds of writes and erases, and of partitions.
+        /// What it finds of writes and erases, of partitions, and of the blocks that writes take.
         writes: Vec<Finding>,
     },
 }
@@ -78,6 +79,32 @@ fn refused(
     })
 }
 
+/// What a review finds of data: of writes and erases, and of the blocks that writes take.
+fn data_found(
+    alloc: Global,
+    graph: &Graph<'_>,
+    known: &Certificate,
+) -> Result<Vec<Finding>, AllocError>
+    requires closed { Closed graph.now known.now.points }
+    ensures { IfOk result (λ found. DataFound graph.now known.now.points found.items) }
+{
+    let mut found = find_writes(alloc, graph, known)?;
+    let shifts = find_shifts(alloc, graph)?;
+    found.extend_from_slice(shifts.as_slice())?;
+    Ok(found)
+}
+
+/// The bound of a certificate that the checker accepts.
+fn bound_of(graph: &Graph<'_>, known: &Certificate) -> u64
+    requires closed { Closed graph.now known.now.points }
+    ensures { result ≡ bound_of graph.now known.now.points }
+{
+    match check(graph, known) {
+        Ok(bound) => bound,
+        Err(_) => unreachable!(),
+    }
+}
+
 /// The bound of an accepted script, the most blocks that it gives, and what a review finds of it.
 fn accepted(
     alloc: Global,
@@ -89,14 +116,11 @@ fn accepted(
     ensures { IfOk result (IsAcceptance script.now graph.now known.now) }
 {
     let found = find(alloc, graph, known)?;
-    let writes = find_writes(alloc, graph, known)?;
-    match check(graph, known) {
-        Ok(bound) => Ok(Verdict::Accepted {
-            bound,
-            given: most_of_block(script.body()),
-            found,
-            writes,
-        }),
-        Err(_) => unreachable!(),
-    }
+    let writes = data_found(alloc, graph, known)?;
+    Ok(Verdict::Accepted {
+        bound: bound_of(graph, known),
+        given: most_of_block(script.body()),
+        found,
+        writes,
+    })
 }

@@ -11,7 +11,9 @@
 #![tactic(auto)]
 
 mod allowed;
+mod causes;
 mod columns;
+mod hints;
 mod judging;
 mod page;
 mod remark;

@@ -273,7 +273,7 @@ fn put_blocks(page: &mut Text, blocks: Option<u64>) -> Result<(), AllocError> {
     }
 }
 
-/// Adds the line of a remark, and that of the card beside which its statement is refused.
+/// Adds the line of a remark, that of the card beside which its statement is refused, and that of what may mend it.
 fn put_remark(page: &mut Text, file: &str, remark: &Remark) -> Result<(), AllocError> {
     put_all(page, &[file, ":"])?;
     put_numbered(page, "", u64::from(remark.place.line), ":")?;
@@ -284,6 +284,11 @@ fn put_remark(page: &mut Text, file: &str, remark: &Remark) -> Result<(), AllocE
     if !remark.card.is_empty() {
         put(page, "    card     ")?;
         page.extend_from_slice(&remark.card)?;
+        put(page, "\n")?;
+    }
+    if !remark.hint.is_empty() {
+        put(page, "    hint     ")?;
+        page.extend_from_slice(&remark.hint)?;
         put(page, "\n")?;
     }
     Ok(())
@@ -352,6 +357,10 @@ fn remark_object(alloc: Global, file: &str, remark: &Remark) -> Result<Value, Al
         let digits = text_of(&digits);
         add(alloc, &mut object, "shape", json!(in alloc; digits)?)?;
         add(alloc, &mut object, "card", json!(in alloc; card)?)?;
+    }
+    if !remark.hint.is_empty() {
+        let hint = text_of(&remark.hint);
+        add(alloc, &mut object, "hint", json!(in alloc; hint)?)?;
     }
     Ok(object)
 }

@@ -39,6 +39,8 @@ pub struct Remark {
     pub words: Text,
     /// The card beside which a statement is refused, on a line; empty where none is.
     pub card: Text,
+    /// What may mend it, on a line; empty where that is not known.
+    pub hint: Text,
     /// The point of the script, if it is of one.
     pub point: Option<usize>,
     /// The shape of that card.

@@ -1,5 +1,6 @@
 //! Runs that break a refused script.
 
+use crate::causes::word_at;
 use crate::remark::Remark;
 use itoa::Buffer;
 use sdv_broken_paths::Break;
@@ -78,12 +79,14 @@ fn file_name(alloc: Global, folder: &str, number: u64, ending: &str) -> Result<S
     Ok(name)
 }
 
-/// The number of the remark on a point, or else of the first.
-fn remark_at(remarks: &[Remark], point: usize) -> usize {
-    let there = remarks
+/// The number of the remark of this kind on a point, or of the first on it, or else of the first.
+fn remark_at(remarks: &[Remark], point: usize, kind: &str) -> usize {
+    let there = remarks.iter().position(|remark| remark.point == Some(point)
+        && remark.kind == kind);
+    let on_it = remarks
         .iter()
         .position(|remark| remark.point == Some(point));
-    there.unwrap_or(0)
+    there.or(on_it).unwrap_or(0)
 }
 
 /// What is told of runs that break the script of a file, below these remarks.
@@ -96,11 +99,12 @@ pub fn runs_told(
 ) -> Result<Vec<Below>, AllocError> {
     let mut told = Vec::new(alloc);
     for (place, run) in found.iter().enumerate() {
+        let kind = word_at(graph, run.wrong.point, run.wrong.shape);
         let later = run_on(alloc, graph, run)?;
         let mut lines = lines_of(alloc, graph, run, &later)?;
         put_again(alloc, &mut lines, file, run, (runs, place as u64))?;
         told.push(Below {
-            remark: remark_at(remarks, run.wrong.point),
+            remark: remark_at(remarks, run.wrong.point, kind),
             lines,
             member: "run",
             value: object_of(alloc, run, &later)?,
@@ -120,7 +124,7 @@ pub fn path_told(
     let words = text_of(&lines);
     let value = json!(in alloc; words)?;
     Ok(Below {
-        remark: remark_at(remarks, path.point),
+        remark: remark_at(remarks, path.point, ""),
         lines,
         member: "path",
         value,

@@ -1,10 +1,12 @@
 //! What is said of a verdict, place by place.
 
 use crate::allowed::{Allowed, is_warning};
+use crate::causes::{Cause, causes_of};
 use crate::columns::{Place, place_of_name, place_of_point, statement_places};
+use crate::hints::{finding_hint, put_hint};
 use crate::judging::Verdict;
 use crate::remark::{Remark, Severity};
-use sdv_explain::{Failure, TextFault, TextFaults};
+use sdv_explain::{TextFault, TextFaults};
 use sdv_facts::Certificate;
 use sdv_graph::Graph;
 use sdv_review::{Finding, Matter, Name, kind_word, matter_words};
@@ -51,6 +53,7 @@ fn fault_remark(alloc: Global, fault: TextFault) -> Remark {
         kind: fault_word(fault.kind),
         words,
         card: Vec::new(alloc),
+        hint: Vec::new(alloc),
         point: None,
         shape: None,
     }
@@ -94,7 +97,10 @@ pub fn remarks_of(
         } => {
             for failure in failures {
                 let place = place_of_point(subject.graph, &places, failure.point);
-                remarks.push(failure_remark(alloc, subject.graph, known, failure, place)?)?;
+                for cause in causes_of(alloc, subject.graph, known, failure)? {
+                    let at = (failure.point, place);
+                    remarks.push(failure_remark(alloc, subject.graph, known, at, cause)?)?;
+                }
             }
         }
         Verdict::Accepted { found, writes, .. } => {
@@ -121,6 +127,7 @@ fn unbroken_remark(alloc: Global, place: Place) -> Result<Remark, AllocError> {
         kind: "unbroken",
         words: Vec::from_slice(alloc, UNBROKEN.as_bytes())?,
         card: Vec::new(alloc),
+        hint: Vec::new(alloc),
         point: None,
         shape: None,
     })
@@ -134,6 +141,7 @@ pub fn unread_remark(alloc: Global) -> Result<Remark, AllocError> {
         kind: "file",
         words: Vec::from_slice(alloc, b"the file cannot be opened or read, or is not UTF-8")?,
         card: Vec::new(alloc),
+        hint: Vec::new(alloc),
         point: None,
         shape: None,
     })
@@ -147,47 +155,53 @@ fn too_many(alloc: Global) -> Result<Remark, AllocError> {
         kind: "too-many",
         words: Vec::from_slice(alloc, TOO_MANY.as_bytes())?,
         card: Vec::new(alloc),
+        hint: Vec::new(alloc),
         point: None,
         shape: None,
     })
 }
 
-/// What is said of a point that fails.
+/// What is said of a point that fails for a cause.
 fn failure_remark(
     alloc: Global,
     graph: &Graph<'_>,
     known: &Certificate,
-    failure: &Failure,
-    place: Place,
+    (point, place): (usize, Place),
+    cause: Cause,
 ) -> Result<Remark, AllocError> {
-    let mut words = Vec::new(alloc);
-    let mut card = Vec::new(alloc);
-    let mut kind = "illegal";
-    let (_table, points) = known.shown();
-    if let Some(here) = points.get(failure.point) {
-        if failure.point < graph.len() {
-            let beside = Beside {
-                numbers: here.facts.numbers(),
-                shape: failure.shape,
-            };
-            put_reason(&mut words, graph, failure.point, failure.why, beside)?;
-            put_shape(&mut card, failure.shape, &graph.names().flags)?;
-            kind = refused_word(
-                &graph.point(failure.point).action,
-                failure.why,
-                failure.shape,
-            );
-        }
-    }
-    Ok(Remark {
+    let Cause { why, shape } = cause;
+    let mut remark = Remark {
         place,
         severity: Severity::Error,
-        kind,
-        words,
-        card,
-        point: Some(failure.point),
-        shape: Some(failure.shape),
-    })
+        kind: "illegal",
+        words: Vec::new(alloc),
+        card: Vec::new(alloc),
+        hint: Vec::new(alloc),
+        point: Some(point),
+        shape: Some(shape),
+    };
+    let (_table, points) = known.shown();
+    if let Some(here) = points.get(point) {
+        if point < graph.len() {
+            let action = &graph.point(point).action;
+            let beside = Beside {
+                numbers: here.facts.numbers(),
+                shape,
+            };
+            put_reason(&mut remark.words, graph, point, why, beside)?;
+            put_shape(&mut remark.card, shape, &graph.names().flags)?;
+            remark.kind = refused_word(action, why, shape);
+            let is_unit = remark.kind == "address";
+            put_hint(
+                &mut remark.hint,
+                graph,
+                action,
+                (why, shape.state()),
+                is_unit,
+            )?;
+        }
+    }
+    Ok(remark)
 }
 
 /// Adds what is said of findings that are not allowed.
@@ -230,6 +244,7 @@ fn finding_remark(
         kind: kind_word(finding.matter),
         words: matter_words(alloc, graph, finding.point, finding.matter)?,
         card: Vec::new(alloc),
+        hint: Vec::from_slice(alloc, finding_hint(finding.matter).as_bytes())?,
         point: finding.point,
         shape: None,
     })
