@@ -5,13 +5,12 @@ use Rattle.clap.specs.Words.{Text}
 use Rattle.sdv_program.specs.declared.fault.Fault.{Fault}
 use Rattle.sdv_program.specs.declared.fault.Fault.TheVariants.{File, Memory}
 use Rattle.sdv_program.specs.Files.{Files}
-use Rattle.sdv_program.specs.Outcomes.{Ending, Reports, outcome_of}
+use Rattle.sdv_program.specs.Outcomes.{Ending, outcome_of}
 use Rattle.sdv_program.proofs.OutcomeLaws.{failed}
 use Rattle.sdv_program.proofs.StartLaws.{keeps_same}
 use Rattle.sdv_graph.specs.Graph.{Graph}
 use Rattle.sdv_audit.specs.declared.fault.AuditFault.{AuditFault}
 use Rattle.sdv_audit.specs.declared.fault.AuditFault.TheVariants as audits
-use Rattle.std.specs.Io.KnownBytes.{Appends}
 use Rattle.sdv_decode.specs.Decoded.{Decodes, at_first}
 use Rattle.sdv_decode.specs.Lines.{lines_in}
 use Rattle.sdv_decode.specs.Room.{StopsByRoom}

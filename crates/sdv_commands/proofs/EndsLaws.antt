@@ -9,12 +9,12 @@ use Rattle.sdv_program.specs.Requests.{CardNames, EmitNames, RunNames, SweepName
 use Rattle.sdv_program.specs.CommandLine.{request_of_words}
 use Rattle.sdv_program.specs.declared.line.LineFault.{LineFault}
 use Rattle.sdv_program.specs.declared.line.LineFault.TheVariants as requests
-use Rattle.sdv_commands.specs.Page.{PrintsPage, asks_page}
+use Rattle.sdv_commands.specs.Page.{asks_page}
 use Rattle.sdv_program.specs.Fault.{fault_of_request, status_of}
 use Rattle.sdv_program.specs.declared.fault.Fault.{Fault}
 use Rattle.sdv_program.specs.declared.fault.Fault.TheVariants.{Memory, Output}
 use Rattle.sdv_program.specs.Files.{Files}
-use Rattle.sdv_program.specs.Outcomes.{Ending, OverText, Prints, PrintsText, Reports, outcome_of}
+use Rattle.sdv_program.specs.Outcomes.{Ending, OverText, Prints, Reports, outcome_of}
 use Rattle.sdv_program.proofs.OutcomeLaws.{failed, over-kept, prints-kept}
 use Rattle.sdv_program.proofs.StartLaws.{keeps_same}
 use Rattle.sdv_program.specs.Refused.{Refuses}

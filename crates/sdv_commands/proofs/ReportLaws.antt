@@ -1,5 +1,5 @@
 -- What came of a report.
-use Rattle.std.proofs.Common.{◌≡◌, inl, inr, sym, subst, ℕ, List, Option, Some, None, Result, Ok, Err, IfOk}
+use Rattle.std.proofs.Common.{inl, inr, sym, subst, ℕ, List, Option, Some, None, Result, Ok, Err, IfOk}
 use Rattle.std.specs.Io.KnownBytes.{Appends}
 use Rattle.clap.specs.Words.{Text}
 use Rattle.sdv_program.specs.declared.fault.Fault.{Fault}

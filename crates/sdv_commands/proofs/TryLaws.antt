@@ -1,5 +1,5 @@
 -- What a run without a certificate leaves, and why there is none.
-use Rattle.std.proofs.Common.{◌≡◌, ◌/◌, refl, ap, inl, inr, Some, None, ℕ, List, ◌∷◌, ◌++◌, [], Option, Result, Ok, Err, IfErr, IsErrAnd}
+use Rattle.std.proofs.Common.{◌≡◌, ◌/◌, refl, inl, inr, Some, None, ℕ, List, ◌∷◌, ◌++◌, [], Option, Result, Ok, Err, IfErr, IsErrAnd}
 use Rattle.std.specs.Prelude.{◌≢◌, ◌⊎◌, string_bytes}
 use Rattle.std.specs.Borrow.{Bor}
 use Rattle.std.specs.Io.KnownBytes.{Appends, Keeps}
@@ -34,7 +34,6 @@ use Rattle.sdv_program.specs.declared.fault.Fault.{Fault}
 use Rattle.sdv_program.specs.declared.fault.Fault.TheVariants.{File, Script, Card, Schedule as Unscheduled, OtherKind, Named, Memory as NoMemory}
 use Rattle.sdv_program.specs.Files.{CardImage, Files}
 use Rattle.sdv_program.specs.Outcomes.{outcome_of}
-use Rattle.sdv_program.proofs.StartLaws.{keeps_same}
 use Rattle.sdv_commands.specs.Run.{FileUse, GivesImage, IsUnread, IsUnreadable, IsUnusable, IsUsed, LosesImage, Receives}
 use Rattle.sdv_commands.specs.Run.{as_image, as_input, as_output, as_schedule, as_text, schedule_codes, some_use}
 use Rattle.sdv_commands.proofs.GivenLaws.{both_used, input_gave, text_gave}

@@ -1,7 +1,6 @@
 -- What the verdicts on files come to.
 use Rattle.std.proofs.Common.{◌≡◌, ◌&&◌, ◌||◌, if◌then◌else◌, inr, sym, subst, ℕ, zero, suc, Bool, true, false, not, List, Option, Some, None}
 use Rattle.std.specs.Prelude.{is_none}
-use Rattle.std.specs.Io.KnownBytes.{Keeps}
 use Rattle.clap.specs.Words.{Text}
 use Rattle.sdv_program.specs.declared.fault.Fault.{Fault}
 use Rattle.sdv_program.specs.declared.fault.Fault.TheVariants.{File, Found, Memory}
@@ -11,7 +10,7 @@ use Rattle.sdv_program.specs.Outcomes.{Reports}
 use Rattle.sdv_program.proofs.StartLaws.{keeps_same}
 use Rattle.sdv_verdict.specs.Told.{IsTold}
 use Rattle.sdv_commands.specs.Report.{CanBeTold, found_if}
-use Rattle.sdv_commands.specs.Verify.{IsNext, IsToldOf, IsUnsaved, IsWorst, is_file, worse}
+use Rattle.sdv_commands.specs.Verify.{IsToldOf, IsUnsaved, IsWorst, is_file, worse}
 
 either_can : (b : Bool) (first second : Option Fault) → CanBeTold first → CanBeTold second → CanBeTold (if b then second else first)
 either_can true first second a b = b

@@ -21,7 +21,6 @@ use Rattle.sdv_trace.specs.Trace.{lines}
 use Rattle.sdv_run.specs.Ran.{IsWalk, Ran}
 use Rattle.sdv_lines.specs.declared.due.Due.{Due}
 use Rattle.sdv_lines.specs.declared.fault.Found.{Found}
-use Rattle.sdv_lines.specs.declared.fault.ProtocolFault.{ProtocolFault}
 use Rattle.sdv_lines.specs.declared.fault.PortFault.{PortFault}
 use Rattle.sdv_lines.specs.declared.fault.PortFault.TheVariants.{Lines, Commands}
 use Rattle.sdv_lines.specs.Streams.{AppendsFront, Streams, LineSteps, TellsEnd, limited, unheard_command}

@@ -1,7 +1,6 @@
 -- `emit SCRIPT CERT NAME [--binary FILE]`: the table of the script of a file, in C, and its bytes in a file, which is none
 -- of those that the command reads.
-use Rattle.std.specs.Prelude.{◌≡◌, ℕ, List, [], ◌∷◌, Option, Some, None, false}
-use Rattle.std.specs.Borrow.{Bor}
+use Rattle.std.specs.Prelude.{◌≡◌, ℕ, List, [], ◌∷◌, Some, false}
 use Rattle.clap.specs.Words.{Text}
 use Rattle.sdv_program.specs.Requests.{EmitNames}
 use Rattle.sdv_emit.specs.declared.emitting.Emitted.{Emitted}

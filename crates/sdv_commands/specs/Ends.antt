@@ -1,6 +1,6 @@
 -- How the program ends, by the words that it was called with. It has two streams of lines beside its output: requests and
 -- answers pass there, and they stay as they were where the words ask for neither.
-use Rattle.std.specs.Prelude.{◌≡◌, ◌⊎◌, ℕ, true, false, List, Option, Some, None}
+use Rattle.std.specs.Prelude.{◌≡◌, ℕ, true, false, List, Option, Some, None}
 use Rattle.std.specs.Io.KnownBytes.{Keeps}
 use Rattle.clap.specs.Words.{Text}
 use Rattle.sdv_program.specs.CommandLine.{request_of_words}

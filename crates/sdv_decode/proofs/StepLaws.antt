@@ -1,5 +1,5 @@
 -- One line more: where a reading stands after it, and what it is.
-use Rattle.std.proofs.Common.{◌≡◌, ◌∙◌, ℕ, Bool, false, true, List, ◌++◌, Option, Some, Result, Ok, Err, inl, inr, refl, sym, ap, subst, option_map}
+use Rattle.std.proofs.Common.{◌≡◌, ◌∙◌, ℕ, Bool, false, true, List, Option, Some, Result, Ok, Err, inl, inr, refl, sym, ap, subst, option_map}
 use Rattle.std.specs.Prelude.{IfOk, OnOk, is_err}
 use Rattle.sdv_telling.specs.Statements.{Text}
 use Rattle.sdv_audit.specs.Course.{Course, IsAt, course_after}

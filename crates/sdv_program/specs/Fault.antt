@@ -21,7 +21,6 @@ use Rattle.sdv_check.specs.declared.fault.CheckFault.{CheckFault}
 use Rattle.sdv_check.specs.declared.fault.CheckFault.TheVariants as checks
 use Rattle.sdv_check.specs.declared.fault.VerifyFault.{VerifyFault}
 use Rattle.sdv_check.specs.declared.fault.VerifyFault.TheVariants as verifies
-use Rattle.sdv_table.specs.declared.fault.Part.{Part}
 use Rattle.sdv_emit.specs.declared.fault.EmitFault.{EmitFault}
 use Rattle.sdv_emit.specs.declared.fault.EmitFault.TheVariants as emits
 use Rattle.sdv_block.specs.declared.fault.BlockFault.{BlockFault}

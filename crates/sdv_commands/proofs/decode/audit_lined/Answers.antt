@@ -1,4 +1,4 @@
-use Rattle.std.proofs.Common.{◌≡◌, ◌∙◌, ap, refl, subst, ℕ, List, Option, Result, Ok, Err, option_map}
+use Rattle.std.proofs.Common.{◌∙◌, ap, refl, subst, ℕ, List, Option, Result, Ok, Err, option_map}
 use Rattle.sdv_audit.specs.declared.fault.TraceFault.{TraceFault}
 use Rattle.sdv_decode.specs.Beside.{AuditsBeside}
 use Rattle.sdv_decode.specs.declared.beside.Beside.{Beside}

@@ -1,4 +1,4 @@
-use Rattle.std.proofs.Common.{◌≡◌, subst, Option, Some, None, Result, List, ℕ, option_map}
+use Rattle.std.proofs.Common.{subst, Option, Some, None, Result, List, ℕ, option_map}
 use Rattle.sdv_program.specs.declared.fault.Fault.{Fault}
 use Rattle.sdv_program.specs.Outcomes.{outcome_of}
 use Rattle.sdv_program.proofs.OutcomeLaws.{failed}

@@ -1,4 +1,3 @@
-use Rattle.std.proofs.Common.{◌≡◌}
 use Rattle.sdv_commands.proofs.decode.decode_trace.Goals as goal
 
 pub returns-in-None : goal.returns-in-None

@@ -1,4 +1,3 @@
-use Rattle.std.proofs.Common.{◌≡◌, rules}
 use Rattle.sdv_program.specs.declared.fault.Fault.TheVariants.{Memory}
 use Rattle.sdv_program.specs.Outcomes.{Reports}
 use Rattle.sdv_program.proofs.OutcomeLaws.{failed}

@@ -1,4 +1,4 @@
-use Rattle.std.proofs.Common.{◌≡◌, inl, inr}
+use Rattle.std.proofs.Common.{inl, inr}
 use Rattle.sdv_commands.specs.Explain.{IsFaultPage, IsJudgement}
 use Rattle.sdv_commands.proofs.ReportLaws.{if_ok_more}
 use Rattle.sdv_commands.proofs.explain.judged.Goals as goal

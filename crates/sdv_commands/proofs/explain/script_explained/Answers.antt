@@ -1,4 +1,4 @@
-use Rattle.std.proofs.Common.{◌≡◌, ◌≢◌, rules, subst, sym, Some}
+use Rattle.std.proofs.Common.{◌≢◌, rules, subst, sym}
 use Rattle.sdv_certify.specs.declared.fault.CertifyFault.TheVariants as certifies
 use Rattle.sdv_commands.specs.Explain.{IsTold}
 use Rattle.sdv_commands.proofs.ExplainLaws.{told_by_survey}

@@ -1,4 +1,4 @@
-use Rattle.std.proofs.Common.{◌≡◌, ◌≢◌, ◌∙◌, ap, rules, subst, sym, inr, Some, None}
+use Rattle.std.proofs.Common.{◌≢◌, ◌∙◌, ap, rules, subst, sym, inr, Some, None}
 use Rattle.sdv_certify.specs.declared.fault.CertifyFault.TheVariants as certifies
 use Rattle.sdv_commands.specs.Explain.{IsTold, told_by}
 use Rattle.sdv_commands.proofs.ExplainLaws.{told_by_survey}

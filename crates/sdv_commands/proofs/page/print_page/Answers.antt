@@ -1,4 +1,3 @@
-use Rattle.std.proofs.Common.{◌≡◌}
 use Rattle.clap.specs.Words.{Text}
 use Rattle.sdv_program.specs.declared.fault.Fault.{Fault}
 use Rattle.sdv_program.specs.declared.fault.Fault.TheVariants.{Memory}

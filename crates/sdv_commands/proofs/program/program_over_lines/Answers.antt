@@ -1,4 +1,4 @@
-use Rattle.std.proofs.Common.{◌≡◌, ◌∙◌, sym}
+use Rattle.std.proofs.Common.{◌∙◌, sym}
 use Rattle.clap.specs.Walk.{texts}
 use Rattle.sdv_program.specs.Files.{any_files}
 use Rattle.sdv_program.specs.Outcomes.{outcome_of}

@@ -1,4 +1,4 @@
-use Rattle.std.proofs.Common.{◌≡◌, inl, inr, refl, sym, subst, rules, ℕ, List, Option, Result, Some, None}
+use Rattle.std.proofs.Common.{inl, inr, refl, sym, subst, ℕ, List, Option, Result, Some, None}
 use Rattle.clap.specs.Words.{Text}
 use Rattle.sdv_program.specs.declared.fault.Fault.{Fault}
 use Rattle.sdv_program.specs.declared.fault.Fault.TheVariants.{Output}

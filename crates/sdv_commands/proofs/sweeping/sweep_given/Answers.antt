@@ -1,4 +1,4 @@
-use Rattle.std.proofs.Common.{◌≡◌, ◌∙◌, ap}
+use Rattle.std.proofs.Common.{◌∙◌, ap}
 use Rattle.sdv_program.specs.declared.fault.Fault.TheVariants.{Memory}
 use Rattle.sdv_program.specs.Outcomes.{Reports}
 use Rattle.sdv_program.proofs.OutcomeLaws.{failed}

@@ -1,4 +1,4 @@
-use Rattle.std.proofs.Common.{◌≡◌, ◌≤◌, ◌∙◌, arith, length, option_map, sym, subst, ap, List}
+use Rattle.std.proofs.Common.{◌≡◌, ◌∙◌, arith, length, option_map, sym, subst, ap, List}
 use Rattle.std.specs.Borrow.{Bor}
 use Rattle.std.specs.Prelude.{slice_get}
 use Rattle.std.proofs.lemmas.List.{length-map}

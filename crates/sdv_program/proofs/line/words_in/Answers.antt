@@ -1,4 +1,4 @@
-use Rattle.std.proofs.Common.{◌≡◌, ◌∙◌, [], ap, sym, List, map, None, Ok, Err, Option, Result, Some, IfOk}
+use Rattle.std.proofs.Common.{◌≡◌, ◌∙◌, [], ap, List, None, Ok, Err, Option, Result, Some, IfOk}
 use Rattle.std.specs.Borrow.{Bor}
 use Rattle.std.specs.Prelude.{unwrap_or}
 use Rattle.std.specs.declared.alloc.AllocError.{AllocError}
