@@ -13,13 +13,18 @@ Audits of traces.
 A command that is not legal in a state that the card may be in.
 
   $ printf 'CMD0 00000000 -\nCMD17 00000000 R1 00000900\n' > b.trace; sdv audit sd b.trace
-  line 2: CMD17 00000000: a card that answered so may be in idle: byte addresses, block length not 512
+  line 2: CMD17 00000000: a card that answered so may be in idle: byte addresses, block length not 512; it is not legal in idle state
   2 lines, 1 reckless, 0 that no card answers, 0 of another length, 0 beyond the capacity, 0 outside, 0 not followed, 0 left out
   [1]
   $ sdv audit --json sd b.trace
-  {"line":2,"told":"CMD17 00000000","finding":"reckless","text":"a card that answered so may be in idle: byte addresses, block length not 512"}
+  {"line":2,"told":"CMD17 00000000","finding":"reckless","text":"a card that answered so may be in idle: byte addresses, block length not 512; it is not legal in idle state"}
   {"lines":2,"reckless":1,"unanswered":0,"lengths":0,"beyond":0,"outside":0,"not_followed":0,"left_out":0}
   [1]
+
+What cards answer where none answers so: here the state that an answer shows is the one before the command.
+
+  $ printf 'CMD0 00000000 -\nCMD55 00000000 R1 00000120\nCMD41 40ff8000 R3 80ff8000\nCMD2 00000000 R2 005858534456202010000000010181\nCMD3 00000000 R6 12340500\nCMD7 12340000 R1 00000900\n' | sdv audit sd - | head -n 1
+  line 6: CMD7 12340000: no card answers so: R1 00000900; the tables have timeout | status stby | status stby, error
 
 Lines outside the tables alone are no finding, and a trace may have no line.
 
@@ -33,7 +38,7 @@ What is found behind such a line rests on it, and says so. Both premises of a ve
 
   $ printf 'CMD5 00000000 timeout\nCMD0 00000000 -\nCMD17 00000000 R1 00000900\n' | sdv audit sd --json -
   {"line":1,"told":"CMD5 00000000","finding":"outside","text":"outside the tables; the audit goes on as if it had not come"}
-  {"line":3,"told":"CMD17 00000000","finding":"reckless","text":"a card that answered so may be in idle: byte addresses, block length not 512 (a line outside the tables came before it)"}
+  {"line":3,"told":"CMD17 00000000","finding":"reckless","text":"a card that answered so may be in idle: byte addresses, block length not 512; it is not legal in idle state (a line outside the tables came before it)"}
   {"lines":3,"reckless":1,"unanswered":0,"lengths":0,"beyond":0,"outside":1,"not_followed":0,"left_out":0}
   [1]
 
@@ -108,24 +113,24 @@ A phase that no host makes, whatever the card answers.
 Answers that no card gives in any state.
 
   $ printf 'CMD0 00000000 -\nCMD8 000001aa R7 000001ab\n' | sdv audit sd -
-  line 2: CMD8 000001aa: no card answers so: R7 000001ab
+  line 2: CMD8 000001aa: no card answers so: R7 000001ab; a card repeats the argument
   2 lines, 0 reckless, 1 that no card answers, 0 of another length, 0 beyond the capacity, 0 outside, 0 not followed, 0 left out
   [1]
   $ (head -n 5 up; echo 'CMD3 00000000 R6 00000500') | sdv audit sd -
-  line 6: CMD3 00000000: no card answers so: R6 00000500
+  line 6: CMD3 00000000: no card answers so: R6 00000500; no card has the relative address 0
   6 lines, 0 reckless, 1 that no card answers, 0 of another length, 0 beyond the capacity, 0 outside, 0 not followed, 0 left out
   [1]
 
 A card has one capacity: another C_SIZE, C_SIZE_MULT, READ_BL_LEN or structure is no answer of it. TRAN_SPEED may change by a switch, and write protection by a write of the CSD.
 
   $ (head -n 7 up; echo 'CMD9 45670000 R2 400e00325b5900001ffe7f800a4000') | sdv audit sd -
-  line 8: CMD9 45670000: no card answers so: R2 400e00325b5900001ffe7f800a4000
+  line 8: CMD9 45670000: no card answers so: R2 400e00325b5900001ffe7f800a4000; the register is no CSD of the kind, or tells another capacity than before
   8 lines, 0 reckless, 1 that no card answers, 0 of another length, 0 beyond the capacity, 0 outside, 0 not followed, 0 left out
   [1]
   $ (head -n 7 up; echo 'CMD9 45670000 R2 400e00325b5a00001fff7f800a4000') | sdv audit sd - | head -n 1
-  line 8: CMD9 45670000: no card answers so: R2 400e00325b5a00001fff7f800a4000
+  line 8: CMD9 45670000: no card answers so: R2 400e00325b5a00001fff7f800a4000; the register is no CSD of the kind, or tells another capacity than before
   $ (head -n 7 up; echo 'CMD9 45670000 R2 000e00325b5900001fff7f800a4000') | sdv audit sd - | head -n 1
-  line 8: CMD9 45670000: no card answers so: R2 000e00325b5900001fff7f800a4000
+  line 8: CMD9 45670000: no card answers so: R2 000e00325b5900001fff7f800a4000; the register is no CSD of the kind, or tells another capacity than before
   $ (head -n 7 up; echo 'CMD9 45670000 R2 400e005a5b5900001fff7f800a6000') | sdv audit sd -
   8 lines, 0 reckless, 0 that no card answers, 0 of another length, 0 beyond the capacity, 0 outside, 0 not followed, 0 left out
 
@@ -154,11 +159,11 @@ A host that is reckless behind an address that lies on no card, and behind a lin
 
   $ printf '%s\n' 'CMD0 00000000 -' 'CMD1 40ff8080 R3 c0ff8080' 'CMD2 00000000 R2 00aa585951454d552101deadbeef00' 'CMD3 00010000 R1 00000500' > e
   $ printf '%s\n' 'CMD7 00010000 R1 00000700' 'CMD24 ffffffff R1 00000900' 'OUT 1 ok' 'CMD17 00000000 R1 00000900' | cat e - | sdv audit emmc -
-  line 8: CMD17 00000000: a card that answered so may be in prg: block addresses (an address before it may lie on no card, or a count before it is not told)
+  line 8: CMD17 00000000: a card that answered so may be in prg: block addresses; it is not legal in prg state (an address before it may lie on no card, or a count before it is not told)
   8 lines, 1 reckless, 0 that no card answers, 0 of another length, 0 beyond the capacity, 0 outside, 0 not followed, 0 left out
   [1]
   $ printf '%s\n' 'CMD7 00010000 R1 00000700' 'CMD5 00000000 timeout' 'CMD24 ffffffff R1 00000900' 'OUT 1 ok' 'CMD17 00000000 R1 00000900' | cat e - | sdv audit emmc - | sed -n 2p
-  line 9: CMD17 00000000: a card that answered so may be in prg: block addresses (an address before it may lie on no card, or a count before it is not told) (a line outside the tables came before it)
+  line 9: CMD17 00000000: a card that answered so may be in prg: block addresses; it is not legal in prg state (an address before it may lie on no card, or a count before it is not told) (a line outside the tables came before it)
   $ printf '%s\n' 'CMD7 00010000 R1 00000700' | cat e - | sdv audit emmc - --annotate --json | tail -n 2
   {"line":5,"told":"","finding":"end","text":"in tran"}
   {"lines":5,"reckless":0,"unanswered":0,"lengths":0,"beyond":0,"outside":0,"not_followed":0,"left_out":0}
@@ -166,13 +171,13 @@ A host that is reckless behind an address that lies on no card, and behind a lin
 Blank lines and comments tell nothing of the bus, but have numbers, and white space at the end of a line is not looked at. The last line counts the comments that tell of a line which was left out or changed.
 
   $ printf '# a log\r\nCMD0 00000000 -\r\n\r\n# left out: CMD52 00000c00: SDIO\nCMD17 00000000 R1 00000900 \t\n#\n# changed: CMD7\n  ' > c.trace; sdv audit sd c.trace
-  line 5: CMD17 00000000: a card that answered so may be in idle: byte addresses, block length not 512
+  line 5: CMD17 00000000: a card that answered so may be in idle: byte addresses, block length not 512; it is not legal in idle state
   2 lines, 1 reckless, 0 that no card answers, 0 of another length, 0 beyond the capacity, 0 outside, 0 not followed, 2 left out
   [1]
   $ sdv audit sd c.trace --annotate --json
   {"line":2,"told":"CMD0 00000000 -","finding":"states","text":"in idle"}
   {"line":5,"told":"CMD17 00000000 R1 00000900","finding":"states","text":"in idle"}
-  {"line":5,"told":"CMD17 00000000","finding":"reckless","text":"a card that answered so may be in idle: byte addresses, block length not 512"}
+  {"line":5,"told":"CMD17 00000000","finding":"reckless","text":"a card that answered so may be in idle: byte addresses, block length not 512; it is not legal in idle state"}
   {"line":8,"told":"","finding":"end","text":"waits for CMD0"}
   {"lines":2,"reckless":1,"unanswered":0,"lengths":0,"beyond":0,"outside":0,"not_followed":0,"left_out":2}
   [1]
@@ -185,14 +190,14 @@ Blank lines and comments tell nothing of the bus, but have numbers, and white sp
 Where no state is left, no line is followed until the next CMD0. There, or at the end, it is told how many.
 
   $ printf '%s\n' 'CMD0 00000000 -' 'CMD8 000001aa R7 000001ab' 'CMD55 00000000 R1 00000120' 'CMD41 40ff8000 R3 c0ff8000' > d.trace; cat d.trace d.trace | sdv audit sd -
-  line 2: CMD8 000001aa: no card answers so: R7 000001ab
+  line 2: CMD8 000001aa: no card answers so: R7 000001ab; a card repeats the argument
   line 5: CMD0 00000000: the audit begins anew; lines before it that are not followed: 2
-  line 6: CMD8 000001aa: no card answers so: R7 000001ab
+  line 6: CMD8 000001aa: no card answers so: R7 000001ab; a card repeats the argument
   at the end: lines before it that are not followed: 2
   8 lines, 0 reckless, 2 that no card answers, 0 of another length, 0 beyond the capacity, 0 outside, 4 not followed, 0 left out
   [1]
   $ sdv audit sd d.trace --json
-  {"line":2,"told":"CMD8 000001aa","finding":"unanswered","text":"no card answers so: R7 000001ab"}
+  {"line":2,"told":"CMD8 000001aa","finding":"unanswered","text":"no card answers so: R7 000001ab; a card repeats the argument"}
   {"line":4,"told":"","finding":"not_followed","text":"lines before it that are not followed: 2"}
   {"lines":4,"reckless":0,"unanswered":1,"lengths":0,"beyond":0,"outside":0,"not_followed":2,"left_out":0}
   [1]

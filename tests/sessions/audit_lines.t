@@ -3,7 +3,7 @@ one line. Beside the script it has no finding, and the lines keep their numbers.
 
   $ four=$EXAMPLES/sd_four_lines.sdv card=$EXAMPLES/sd_block.card; sdv certify $four > four.cert
   $ sdv run $four four.cert $card new:1024 > four.trace; sdv audit sd four.trace
-  line 13: IN 1 ok: a card that answered so may be in data, a read is due, the card on 4 data lines and the host on 1 data line: block addresses
+  line 13: IN 1 ok: a card that answered so may be in data, a read is due, the card on 4 data lines and the host on 1 data line: block addresses; the card uses 4 data lines, and the host 1 data line
   at the end: lines before it that are not followed: 1
   14 lines, 1 reckless, 0 that no card answers, 0 of another length, 0 beyond the capacity, 0 outside, 1 not followed, 0 left out
   [1]
@@ -35,7 +35,7 @@ JSON and a picture stand alone; the status is that of the audit.
   line 1, script line 2: CMD0 00000000 -: no answer is due
   line 2, script line 4: CMD2 00000000 timeout: no answer: the tables have no such answer here
   line 3, script line 5: fault stop: the run ends
-  line 2: CMD2 00000000: a card that answered so may be in idle, the card on 1 data line and the host on 4 data lines: byte addresses, block length not 512
+  line 2: CMD2 00000000: a card that answered so may be in idle, the card on 1 data line and the host on 4 data lines: byte addresses, block length not 512; it is not legal in idle state
   at the end: lines before it that are not followed: 1
   3 lines, 1 reckless, 0 that no card answers, 0 of another length, 0 beyond the capacity, 0 outside, 1 not followed, 0 left out
   [1]

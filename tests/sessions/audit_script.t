@@ -85,7 +85,7 @@ Errors in a status, a phase that was cut, and a wait.
   line 3, script line 4: IN 0 cut: blocks from the card, cut: the tables have no such answer here
   line 4, script line 5: WAIT late: still busy: the tables have no such answer here
   line 5, script line 6: fault stop: the run ends
-  line 2: CMD13 00000000: a card that answered so may be in idle: byte addresses, block length not 512
+  line 2: CMD13 00000000: a card that answered so may be in idle: byte addresses, block length not 512; it is not legal in idle state
   at the end: lines before it that are not followed: 3
   5 lines, 1 reckless, 0 that no card answers, 0 of another length, 0 beyond the capacity, 0 outside, 3 not followed, 0 left out
   [1]

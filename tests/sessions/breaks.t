@@ -1,8 +1,9 @@
 Runs that break a refused script: without a mishap, and with one. `sdv try` repeats each.
 
   $ printf 'card sd\nsend 0 { else { } }\ndone\n' > early.sdv; mkdir one; sdv verify early.sdv --save one
-  early.sdv:3:1: error: done: at done the card has to be in tran state; CMD12 ends a transfer, and a wait the busy time [end-state]
+  early.sdv:3:1: error: done: at done the card has to be in the transfer state [end-state]
       card     idle: byte addresses, block length not 512
+      hint     the bring-up may not have come so far: end the run in a fault where it fails
       mishap   none
       wrong    line 3: done comes to a card in idle state
       then     done
@@ -93,6 +94,7 @@ Each statement that is refused, with a run that stops there, if one is found. Ea
   line 21 state
       mishap   line 18: the card refuses CMD7 with an error
       wrong    line 21: CMD18 comes to a card in stby state, where it is not legal
+  line 21 block-length
   line 22 data-phase
       mishap   line 21: the card refuses CMD18 with an error
       wrong    line 22: IN 8 comes to a card in tran state with no read of blocks due
@@ -122,6 +124,7 @@ Each statement that is refused, with a run that stops there, if one is found. Ea
       mishap   line 17: the card refuses CMD3 with an error
       wrong    line 18: CMD7 comes to a card in ident state, where it is not legal
   line 20 app-command
+  line 20 state
       mishap   line 18: the card refuses CMD7 with an error
       wrong    line 20: CMD6 comes to a card in stby state, where it is not legal
   line 23 state
@@ -130,7 +133,9 @@ Each statement that is refused, with a run that stops there, if one is found. Ea
   line 30 state
       mishap   line 26: the card refuses CMD7 with an error
       wrong    line 30: CMD17 comes to a card in stby state, where it is not legal
+  line 30 block-length
   line 30 data-phase
+  line 30 data-lines
       mishap   line 20: the card refuses CMD6 with an error
       wrong    line 30: IN 1 comes to a card in data state that uses other data lines than the host
   line 31 state
@@ -190,6 +195,7 @@ Each statement that is refused, with a run that stops there, if one is found. Ea
       mishap   line 18: the card refuses CMD3 with an error
       wrong    line 19: CMD9 comes to a card in ident state, where it is not legal
   line 22 app-command
+  line 22 state
       mishap   line 20: the card refuses CMD7 with an error
       wrong    line 22: CMD51 comes to a card in stby state, where it is not legal
   line 22 data-phase
@@ -202,6 +208,7 @@ Each statement that is refused, with a run that stops there, if one is found. Ea
       mishap   line 27: the card refuses CMD16 with an error
       wrong    line 28: CMD17 comes to a card in tran state whose block length is not 512 bytes
   line 29 data-phase
+  line 29 data-lines
       mishap   line 24: the card refuses CMD6 with an error
       wrong    line 29: IN 1 comes to a card in data state that uses other data lines than the host
   line 32 data-phase
@@ -245,6 +252,7 @@ A script that is refused out of caution: an answer that is not taken by the case
   refused Illegal point 23 shape 0000000000002804
   caution.sdv:14:37: error: CMD2 is not legal in tran state [state]
       card     tran: byte addresses, block length 512
+      hint     the card may be selected: begin anew with CMD0
   caution.sdv:14:37: note: no card of the state tables breaks the script; it is refused because the certificate cannot tell some cases apart [unbroken]
   caution.sdv: refused (1 error, 1 note)
   [1]
@@ -300,6 +308,7 @@ What breaks this script is an answer of CMD55 without an error and without APP_C
   $ sed 's/ app { send 41/ clean { send 41/' $EXAMPLES/sd_bring_up.sdv > unasked.sdv; sdv verify unasked.sdv --save one; cat one/1.schedule
   unasked.sdv:7:31: error: CMD41: this is an application command, and the card may not take the next command as one [app-command]
       card     idle: byte addresses, block length not 512
+      hint     go on in the case `app` of CMD55, which is taken only where the card takes an application command next
       mishap   line 7: the answer to CMD55 lacks APP_CMD
       wrong    line 7: CMD41 comes to a card in idle state without the application flag
       then     CMD41 40ff8000 timeout
@@ -438,6 +447,7 @@ What breaks this one is a card with block addresses that is ready without a CMD8
   $ sdv verify unchecked.sdv
   unchecked.sdv:3:82: error: CMD2 is not legal in idle state [state]
       card     idle: block addresses
+      hint     the bring-up may not have come so far: end the run where it fails
       path     of the greatest card with block addresses; no simulated card was found that breaks the script
       a way there:
           before the first command    idle: block addresses
@@ -450,12 +460,13 @@ What breaks this one is a card with block addresses that is ready without a CMD8
   unchecked.sdv: refused (1 error)
   [1]
   $ sdv verify unchecked.sdv --json | head -n 1
-  {"card":"idle: block addresses","column":82,"file":"unchecked.sdv","kind":"state","line":3,"path":"    path     of the greatest card with block addresses; no simulated card was found that breaks the script\n    a way there:\n        before the first command    idle: block addresses\n        line 2   CMD0                    -                                    then idle: block addresses\n        line 3   CMD55                   status idle, application command next then idle, application command next: block addresses\n                     takes `app`\n        line 3   CMD41                   answer, ready, block addresses       then ready: block addresses\n                     takes `ocr.ready & ocr.block`\n        line 3   CMD0                    -                                    then idle: block addresses\n","point":4,"severity":"error","shape":"0000000000002c00","text":"CMD2 is not legal in idle state"}
+  {"card":"idle: block addresses","column":82,"file":"unchecked.sdv","hint":"the bring-up may not have come so far: end the run where it fails","kind":"state","line":3,"path":"    path     of the greatest card with block addresses; no simulated card was found that breaks the script\n    a way there:\n        before the first command    idle: block addresses\n        line 2   CMD0                    -                                    then idle: block addresses\n        line 3   CMD55                   status idle, application command next then idle, application command next: block addresses\n                     takes `app`\n        line 3   CMD41                   answer, ready, block addresses       then ready: block addresses\n                     takes `ocr.ready & ocr.block`\n        line 3   CMD0                    -                                    then idle: block addresses\n","point":4,"severity":"error","shape":"0000000000002c00","text":"CMD2 is not legal in idle state"}
 
 The same of `done`, of an address in the wrong unit, and of blocks that the greatest card has not.
 
-  $ sed 's/send 0 { else { } } send 2 { else { } }/done/' unchecked.sdv > undone.sdv; sdv verify undone.sdv | sed -n '2,6p'
+  $ sed 's/send 0 { else { } } send 2 { else { } }/done/' unchecked.sdv > undone.sdv; sdv verify undone.sdv | sed -n '2,7p'
       card     ready: block addresses
+      hint     the bring-up may not have come so far: end the run in a fault where it fails
       path     of the greatest card with block addresses; no simulated card was found that breaks the script
       a way there:
           before the first command    idle: block addresses
@@ -465,10 +476,11 @@ The same of `done`, of an address in the wrong unit, and of blocks that the grea
   > done
   above.sdv:14:37: error: CMD17 at block n needs a card with block addresses [address]
       path     of the greatest card with byte addresses; no simulated card was found that breaks the script
-  above.sdv:15:1: error: done: at done the card has to be in tran state; CMD12 ends a transfer, and a wait the busy time [end-state]
+  above.sdv:14:37: error: CMD17 at block n: the card may not have all blocks at block n; what is known: the card has 4194304 blocks or more; cap is from 4194304 to 4294967296, not beyond the card's end; n is from 4194305 to 4294967297 [capacity]
+  above.sdv:15:1: error: done: at done the card has to be in the transfer state; CMD12 ends a transfer [end-state]
   above.sdv:14:37: error: CMD17 at by hc n: the card may not have all blocks at by hc n; what is known: the card has 4194304 blocks or more; cap is from 4194304 to 4294967296, not beyond the card's end; n is from 4194305 to 4294967297 [capacity]
       path     of the greatest card with byte addresses; no simulated card was found that breaks the script
-  above.sdv:15:1: error: done: at done the card has to be in tran state; CMD12 ends a transfer, and a wait the busy time [end-state]
+  above.sdv:15:1: error: done: at done the card has to be in the transfer state; CMD12 ends a transfer [end-state]
 
 Nothing is written where no run was found.
 

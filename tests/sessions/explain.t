@@ -277,7 +277,7 @@ Where none is found, nothing is added; nor where a run may be long, or where the
   refused EndState point 5
   line 3, point 5: done, if the card is
       idle: byte addresses, block length not 512
-  why: at done the card has to be in tran state; CMD12 ends a transfer, and a wait the busy time
+  why: at done the card has to be in the transfer state
   a way there:
       before the first command    idle: byte addresses, block length not 512
       line 2   CMD0                    -                                    then idle: byte addresses, block length not 512

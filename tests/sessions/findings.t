@@ -1,9 +1,11 @@
 What `verify` finds of accepted scripts. Each of these begins with a bring-up of an example.
 
   $ (cd $EXAMPLES; sdv verify production/sd_write_many.sdv)
-  production/sd_write_many.sdv: accepted, at most 12028 commands, gives at most 24 blocks
+  production/sd_write_many.sdv:19:40: note: runs may give different numbers of blocks before this one, as where a write is tried again [input-shifts]
+  production/sd_write_many.sdv: accepted, at most 12028 commands, gives at most 24 blocks (1 note)
   $ (cd $EXAMPLES; sdv verify --json production/sd_write_many.sdv)
-  {"blocks":24,"commands":12028,"errors":0,"file":"production/sd_write_many.sdv","notes":0,"verdict":"accepted","warnings":0}
+  {"column":40,"file":"production/sd_write_many.sdv","kind":"input-shifts","line":19,"point":28,"severity":"note","text":"runs may give different numbers of blocks before this one, as where a write is tried again"}
+  {"blocks":24,"commands":12028,"errors":0,"file":"production/sd_write_many.sdv","notes":1,"verdict":"accepted","warnings":0}
   $ sdv batch sd "write 3 2 read 3 2" | sdv verify -
   -: accepted, at most 3012 commands, gives at most 2 blocks
   $ sdv batch emmc "write 3 2 read 3 2 write 9 1" | sdv verify -
@@ -38,23 +40,29 @@ A write that a clean status in transfer state confirms, one that nothing confirm
   confirmed.sdv: accepted, at most 2009 commands, gives at most 1 block (1 note)
   sd open
   open.sdv:16:3: warning: done may come before the write of line 15 is confirmed [write]
+      hint     behind the wait, `send 13 { clean & state=tran { .. } else { .. } }` shows that it is stored
   open.sdv: accepted, at most 2008 commands, gives at most 1 block (1 warning, 1 note)
   sd doubt
   doubt.sdv:16:26: warning: done may come where the write of line 15 was lost or cut, or its error passed over [write]
+      hint     end the run in a fault, or do it again, where it is lost, cut or answered with an error
   doubt.sdv: accepted, at most 2009 commands, gives at most 1 block (1 warning, 1 note)
   sd ready
   ready.sdv:16:26: warning: done may come where the write of line 15 was lost or cut, or its error passed over [write]
+      hint     end the run in a fault, or do it again, where it is lost, cut or answered with an error
   ready.sdv: accepted, at most 3009 commands, gives at most 1 block (1 warning, 1 note)
   emmc confirmed
   confirmed.sdv: accepted, at most 1009 commands, gives at most 1 block (1 note)
   emmc open
   open.sdv:15:3: warning: done may come before the write of line 14 is confirmed [write]
+      hint     behind the wait, `send 13 { clean & state=tran { .. } else { .. } }` shows that it is stored
   open.sdv: accepted, at most 1008 commands, gives at most 1 block (1 warning, 1 note)
   emmc doubt
   doubt.sdv:15:26: warning: done may come where the write of line 14 was lost or cut, or its error passed over [write]
+      hint     end the run in a fault, or do it again, where it is lost, cut or answered with an error
   doubt.sdv: accepted, at most 1009 commands, gives at most 1 block (1 warning, 1 note)
   emmc ready
   ready.sdv:15:26: warning: done may come where the write of line 14 was lost or cut, or its error passed over [write]
+      hint     end the run in a fault, or do it again, where it is lost, cut or answered with an error
   ready.sdv: accepted, at most 2009 commands, gives at most 1 block (1 warning, 1 note)
 
 A write that was cut, and given up for a done; and one that was left for another place.
@@ -76,15 +84,49 @@ A write that was cut, and given up for a done; and one that was left for another
   >   sdv verify cut.sdv; sdv verify --json other.sdv
   > done
   cut.sdv:16:81: warning: done may come where the write of line 15 was lost or cut, or its error passed over [write]
+      hint     end the run in a fault, or do it again, where it is lost, cut or answered with an error
   cut.sdv: accepted, at most 4008 commands, gives at most 1 block (1 warning)
   {"column":34,"file":"other.sdv","kind":"write","line":19,"point":39,"severity":"warning","text":"done may come where line 18 left the write of line 15, which may have failed"}
   {"column":1,"file":"other.sdv","kind":"unreached","line":20,"point":43,"severity":"note","text":"no run comes to fault write"}
   {"blocks":2,"commands":4009,"errors":0,"file":"other.sdv","notes":1,"verdict":"accepted","warnings":1}
   cut.sdv:15:81: warning: done may come where the write of line 14 was lost or cut, or its error passed over [write]
+      hint     end the run in a fault, or do it again, where it is lost, cut or answered with an error
   cut.sdv: accepted, at most 3008 commands, gives at most 1 block (1 warning)
   {"column":34,"file":"other.sdv","kind":"write","line":18,"point":42,"severity":"warning","text":"done may come where line 17 left the write of line 14, which may have failed"}
   {"column":1,"file":"other.sdv","kind":"unreached","line":19,"point":46,"severity":"note","text":"no run comes to fault write"}
   {"blocks":2,"commands":3009,"errors":0,"file":"other.sdv","notes":1,"verdict":"accepted","warnings":1}
+  [1]
+
+A flag that is set where a write is confirmed tells the runs apart, where it is tested before the done: not the wrong way round, and
+not without a test.
+
+  $ for kind in sd emmc; do { grep -v '^done' $EXAMPLES/${kind}_bring_up.sdv | sed 's/^flags hc/flags hc sure/'; cat << 'END'; } > sure.sdv
+  > if cap >= 16 { } else { fault small }
+  > send 24 at by hc 8 { clean { give { ok { } else { fault cut } } } else { fault lost } }
+  > loop 1000 { wait { ok { break } else { } } } else { fault busy }
+  > send 13 { clean & state=tran { set sure } else { } }
+  > if sure { done } else { fault unsure }
+  > END
+  >   sed 's/^if sure.*/if sure { fault sure } else { done }/' sure.sdv > unsure.sdv
+  >   sed 's/^if sure.*/done/' sure.sdv > untested.sdv
+  >   for name in sure unsure untested; do sdv verify $name.sdv; done
+  > done
+  sure.sdv: accepted, at most 2009 commands, gives at most 1 block
+  unsure.sdv:18:31: warning: done may come where the write of line 15 was lost or cut, or its error passed over [write]
+      hint     end the run in a fault, or do it again, where it is lost, cut or answered with an error
+  unsure.sdv: accepted, at most 2009 commands, gives at most 1 block (1 warning)
+  untested.sdv:3:10: note: sure is never read [unread]
+  untested.sdv:18:1: warning: done may come where the write of line 15 was lost or cut, or its error passed over [write]
+      hint     end the run in a fault, or do it again, where it is lost, cut or answered with an error
+  untested.sdv: accepted, at most 2009 commands, gives at most 1 block (1 warning, 1 note)
+  sure.sdv: accepted, at most 1009 commands, gives at most 1 block
+  unsure.sdv:17:31: warning: done may come where the write of line 14 was lost or cut, or its error passed over [write]
+      hint     end the run in a fault, or do it again, where it is lost, cut or answered with an error
+  unsure.sdv: accepted, at most 1009 commands, gives at most 1 block (1 warning)
+  untested.sdv:3:10: note: sure is never read [unread]
+  untested.sdv:17:1: warning: done may come where the write of line 14 was lost or cut, or its error passed over [write]
+      hint     end the run in a fault, or do it again, where it is lost, cut or answered with an error
+  untested.sdv: accepted, at most 1009 commands, gives at most 1 block (1 warning, 1 note)
   [1]
 
 A write command that was lost or refused, and stepped over: no blocks were given. And what leaves it: another write, an erase, a
@@ -101,11 +143,13 @@ number of its address, a change of partition.
   >   { echo 'loop 3 {'; write b 'break' ''; echo $back; echo '} else { fault lost }'; echo done; } | up $kind | sdv verify -
   > done
   -:17:1: warning: done may come where the write of line 15 was lost or cut, or its error passed over [write]
+      hint     end the run in a fault, or do it again, where it is lost, cut or answered with an error
   -: accepted, at most 4009 commands, gives at most 1 block (1 warning)
   -:17:138: warning: done may come where line 17 left the write of line 15, which may have failed [write]
   -:18:1: warning: done may come where line 17 left the write of line 15, which may have failed [write]
   -: accepted, at most 8008 commands, gives at most 3 blocks
   -:16:1: warning: done may come where the write of line 14 was lost or cut, or its error passed over [write]
+      hint     end the run in a fault, or do it again, where it is lost, cut or answered with an error
   -: accepted, at most 3009 commands, gives at most 1 block (1 warning)
   -:16:138: warning: done may come where line 16 left the write of line 14, which may have failed [write]
   -:17:1: warning: done may come where line 16 left the write of line 14, which may have failed [write]
@@ -120,9 +164,36 @@ number of its address, a change of partition.
 A write that is sent once more after its blocks were given counts from there on.
 
   $ { echo 'loop 2 {'; write b '' ''; echo $back; echo '} else { done }'; } | up sd | sdv verify -
+  -:16:30: note: runs may give different numbers of blocks before this one, as where a write is tried again [input-shifts]
   -:18:10: warning: done may come where the write of line 16 was lost or cut, or its error passed over [write]
-  -: accepted, at most 6010 commands, gives at most 2 blocks (1 warning)
+      hint     end the run in a fault, or do it again, where it is lost, cut or answered with an error
+  -: accepted, at most 6010 commands, gives at most 2 blocks (1 warning, 1 note)
   [1]
+
+The input is a stream: a write that is tried again takes the blocks behind those of the first try, and so does a write behind it. A
+write in front of both, and one that is tried again before it gave blocks, take the same blocks in each run.
+
+  $ again() { echo 'loop 9 { send 13 { state=rcv { send 12 { else { } } } ready & state=tran { break } else { } } } else { fault stuck }'; }
+  $ { grep -v '^done' $EXAMPLES/sd_bring_up.sdv; echo 'if cap >= 16 { } else { fault small }'
+  >   echo 'loop 3 { send 24 at by hc 1 { clean { break } else { } }'; again; echo '} else { fault lost }'
+  >   echo 'give { ok { } else { fault cut } }'; again; echo 'send 13 { clean & state=tran { } else { fault doubt } }'
+  >   echo 'loop 3 { send 24 at by hc 2 { clean { give { ok { } else { } } } else { fault lost } }'; again
+  >   echo 'send 13 { clean & state=tran { break } else { } } } else { fault doubt }'
+  >   echo 'send 24 at by hc 3 { clean { give { ok { } else { fault cut } } } else { fault lost } }'; again
+  >   echo 'send 13 { clean & state=tran { done } else { fault doubt } }'; } > shifted.sdv
+  $ sdv verify shifted.sdv; grep -n give shifted.sdv
+  shifted.sdv:19:32: note: no run comes to CMD12 [unreached]
+  shifted.sdv:21:39: note: runs may give different numbers of blocks before this one, as where a write is tried again [input-shifts]
+  shifted.sdv:24:30: note: runs may give different numbers of blocks before this one, as where a write is tried again [input-shifts]
+  shifted.sdv:25:32: note: no run comes to CMD12 [unreached]
+  shifted.sdv:26:32: warning: done may come where line 21 left the write of line 15, which may have failed [write]
+  shifted.sdv:26:32: warning: done may come where line 24 left the write of line 21, which may have failed [write]
+  shifted.sdv:26:32: warning: done may come where the write of line 24 was lost or cut, or its error passed over [write]
+      hint     end the run in a fault, or do it again, where it is lost, cut or answered with an error
+  shifted.sdv: accepted, at most 2138 commands, gives at most 7 blocks (3 warnings, 4 notes)
+  18:give { ok { } else { fault cut } }
+  21:loop 3 { send 24 at by hc 2 { clean { give { ok { } else { } } } else { fault lost } }
+  24:send 24 at by hc 3 { clean { give { ok { } else { fault cut } } } else { fault lost } }
 
 A write that comes again after a number changed is another one.
 
@@ -136,9 +207,11 @@ A write that comes again after a number changed is another one.
   > } else { fault unwritten }
   > END
   $ sdv verify again.sdv; sed '19d' again.sdv | sdv verify -
+  again.sdv:17:32: note: runs may give different numbers of blocks before this one, as where a write is tried again [input-shifts]
   again.sdv:18:36: warning: done may come where line 19 left the write of line 17, which may have failed [write]
-  again.sdv: accepted, at most 2013 commands, gives at most 3 blocks (1 warning)
-  -: accepted, at most 2013 commands, gives at most 3 blocks
+  again.sdv: accepted, at most 2013 commands, gives at most 3 blocks (1 warning, 1 note)
+  -:17:32: note: runs may give different numbers of blocks before this one, as where a write is tried again [input-shifts]
+  -: accepted, at most 2013 commands, gives at most 3 blocks (1 note)
 
 A number that is set between a command and its blocks, and more writes open at once than a review keeps apart.
 
@@ -177,11 +250,13 @@ An erase, confirmed and not.
   erase.sdv:18:1: note: no run comes to fault erase [unreached]
   erase.sdv: accepted, at most 2011 commands (1 note)
   erase.sdv:16:68: warning: done may come before the erase of line 15 is confirmed [erase]
+      hint     behind the wait, `send 13 { clean & state=tran { .. } else { .. } }` shows that it is done
   erase.sdv:18:1: note: no run comes to fault erase [unreached]
   erase.sdv: accepted, at most 2010 commands (1 warning, 1 note)
   erase.sdv:17:1: note: no run comes to fault erase [unreached]
   erase.sdv: accepted, at most 1011 commands (1 note)
   erase.sdv:15:68: warning: done may come before the erase of line 14 is confirmed [erase]
+      hint     behind the wait, `send 13 { clean & state=tran { .. } else { .. } }` shows that it is done
   erase.sdv:17:1: note: no run comes to fault erase [unreached]
   erase.sdv: accepted, at most 1010 commands (1 warning, 1 note)
   [1]
@@ -226,6 +301,7 @@ pair, nor by another last block; and without CMD38 it is not done.
   >     erase done 'let b = 0'; echo "} else { fault first } } $wait } else { fault unerased }"; } | up $kind | sdv verify - | grep done
   > done
   -:17:1: warning: done may come where the erase of line 15 was begun without CMD38 [erase]
+      hint     end the run in a fault, or do it again, where it is lost, cut or answered with an error
   -: accepted, at most 2009 commands (1 warning)
   -: accepted, at most 2019 commands
   -:16:173: warning: done may come where line 18 left the erase of line 16, which may have failed [erase]
@@ -235,6 +311,7 @@ pair, nor by another last block; and without CMD38 it is not done.
   -:21:115: warning: done may come where line 17 left the erase of line 15, which may have failed [erase]
   -:21:115: warning: done may come where line 19 left the erase of line 15, which may have failed [erase]
   -:16:1: warning: done may come where the erase of line 14 was begun without CMD38 [erase]
+      hint     end the run in a fault, or do it again, where it is lost, cut or answered with an error
   -: accepted, at most 1009 commands (1 warning)
   -: accepted, at most 1019 commands
   -:15:175: warning: done may come where line 17 left the erase of line 15, which may have failed [erase]
@@ -259,6 +336,7 @@ A CMD6 that was lost leaves open which partition a write reaches.
   boot.sdv:7:6: note: cap is never read [unread]
   boot.sdv:19:3: warning: part.access writes all of PARTITION_CONFIG, which clears the boot enable bits [boot-enable]
   boot.sdv:23:1: warning: CMD24 may reach the user area or boot partition 1 [partition]
+      hint     go on in the case `clean` of a CMD13 behind the switch, in the transfer state
   boot.sdv:25:1: note: no run comes to fault write [unreached]
   boot.sdv: accepted, at most 1016 commands, gives at most 1 block (2 warnings, 2 notes)
   [1]
@@ -343,6 +421,7 @@ What certify refuses.
   $ (cd $EXAMPLES; sdv verify refused_block_address.sdv)
   refused_block_address.sdv:15:1: error: CMD17 at block 8 needs a card with block addresses [address]
       card     tran: byte addresses, block length 512
+      hint     `at by hc` addresses both sorts of cards, where the case `ocr.ready & ocr.block` alone sets hc
       mishap   none
       wrong    line 15: CMD17 comes to a card in tran state with byte addresses, and its argument is none of the block
       then     CMD17 00000008 timeout

@@ -124,6 +124,7 @@ The end of a search in which no small card shows what is wrong: the script sends
   $ sed 's/^done/if cap >= 4194304 { send 13 { else { } } send 12 { else { } } } else { }\ndone/' $up > great.sdv; sdv verify great.sdv
   great.sdv:14:42: error: CMD12 is not legal in tran state [state]
       card     tran: byte addresses, block length 512
+      hint     the transfer may have ended: send CMD12 where the status shows `state=data` or `state=rcv`
       path     of the greatest card with byte addresses; no simulated card was found that breaks the script
       a way there, if its number tests come out so:
           before the first command    idle: byte addresses, block length not 512
@@ -155,8 +156,9 @@ The end of a search in which no small card shows what is wrong: the script sends
 An e.MMC script that is wrong without a mishap, one that is wrong with one, and one of which no run is found.
 
   $ printf 'card emmc\nsend 0 { else { } }\ndone\n' > early.sdv; mkdir runs; sdv verify early.sdv --save runs; cat runs/1.card
-  early.sdv:3:1: error: done: at done the card has to be in tran state; CMD12 ends a transfer, and a wait the busy time [end-state]
+  early.sdv:3:1: error: done: at done the card has to be in the transfer state [end-state]
       card     idle: byte addresses, block length not 512
+      hint     the bring-up may not have come so far: end the run in a fault where it fails
       mishap   none
       wrong    line 3: done comes to a card in idle state
       then     done

@@ -26,7 +26,7 @@ Words that no other session shows: of lines of traces beside a script.
   line 8, script line 9: CMD51 00000000 R1 00000920: tran, ready, APP_CMD
   line 9, script line 10: REG 8 ok: SCR
   line 10, script line 11: done: the run ends
-  line 2: CMD8 000001aa: no card answers so: R7 000001ab
+  line 2: CMD8 000001aa: no card answers so: R7 000001ab; a card repeats the argument
   at the end: lines before it that are not followed: 8
   10 lines, 0 reckless, 1 that no card answers, 0 of another length, 0 beyond the capacity, 0 outside, 8 not followed, 0 left out
   [1]
@@ -106,12 +106,14 @@ What a verdict says of partitions, and of an erase that was not begun whole.
   -:28:1: warning: CMD17 may reach the user area or a boot partition [partition]
   -:28:94: note: no run comes to fault read [unreached]
   $ { up; sure 1; maybe 2; echo "$read"; } | sdv verify - --json | grep reach
-  {"column":1,"file":"-","kind":"partition","line":26,"point":49,"severity":"warning","text":"CMD17 may reach boot partition 1 or boot partition 2"}
+  {"column":1,"file":"-","hint":"go on in the case `clean` of a CMD13 behind the switch, in the transfer state","kind":"partition","line":26,"point":49,"severity":"warning","text":"CMD17 may reach boot partition 1 or boot partition 2"}
   {"column":94,"file":"-","kind":"unreached","line":26,"point":54,"severity":"note","text":"no run comes to fault read"}
   $ up() { grep -v '^done' $EXAMPLES/sd_bring_up.sdv; echo 'if cap >= 16 { } else { fault small }'; }
   $ { up; echo 'send 32 at by hc 8 { clean { } else { done } } done'; } | sdv verify -
   -:15:39: warning: done may come where the erase of line 15 was begun without a last block [erase]
+      hint     end the run in a fault, or do it again, where it is lost, cut or answered with an error
   -:15:48: warning: done may come where the erase of line 15 was begun without a last block [erase]
+      hint     end the run in a fault, or do it again, where it is lost, cut or answered with an error
   -: accepted, at most 2008 commands (2 warnings)
   [1]
 
@@ -121,7 +123,7 @@ An audit that waits for a CMD0 says so, with each line of the trace.
   $ sdv audit sd wrong.trace --annotate
   line 1: CMD0 00000000 -: in idle
   line 2: CMD13 00000000 R1 00000900: in idle
-  line 2: CMD13 00000000: a card that answered so may be in idle: byte addresses, block length not 512
+  line 2: CMD13 00000000: a card that answered so may be in idle: byte addresses, block length not 512; it is not legal in idle state
   line 3: CMD13 00000000 R1 00000900: waits for CMD0
   line 4: CMD0 00000000 -: waits for CMD0
   line 4: CMD0 00000000: the audit begins anew; lines before it that are not followed: 1
@@ -131,7 +133,7 @@ An audit that waits for a CMD0 says so, with each line of the trace.
   $ sdv audit sd wrong.trace --annotate --json
   {"line":1,"told":"CMD0 00000000 -","finding":"states","text":"in idle"}
   {"line":2,"told":"CMD13 00000000 R1 00000900","finding":"states","text":"in idle"}
-  {"line":2,"told":"CMD13 00000000","finding":"reckless","text":"a card that answered so may be in idle: byte addresses, block length not 512"}
+  {"line":2,"told":"CMD13 00000000","finding":"reckless","text":"a card that answered so may be in idle: byte addresses, block length not 512; it is not legal in idle state"}
   {"line":3,"told":"CMD13 00000000 R1 00000900","finding":"states","text":"waits for CMD0"}
   {"line":4,"told":"CMD0 00000000 -","finding":"states","text":"waits for CMD0"}
   {"line":4,"told":"CMD0 00000000","finding":"anew","text":"the audit begins anew; lines before it that are not followed: 1"}

@@ -6,6 +6,7 @@ Verdicts on scripts: every fault of a text at once, every statement that is refu
   $ sdv verify refused_block_address.sdv
   refused_block_address.sdv:15:1: error: CMD17 at block 8 needs a card with block addresses [address]
       card     tran: byte addresses, block length 512
+      hint     `at by hc` addresses both sorts of cards, where the case `ocr.ready & ocr.block` alone sets hc
       mishap   none
       wrong    line 15: CMD17 comes to a card in tran state with byte addresses, and its argument is none of the block
       then     CMD17 00000008 timeout
@@ -36,6 +37,50 @@ Several files: each is judged, whatever the others are. The status is the greate
   smallest.sdv: accepted, at most 1 command
   cannot use none.sdv
   [2]
+
+Five slips in one script: a name, a lost answer, a state, a unit and a capacity. Once it is a script, all others are told at once.
+
+  $ cat > five.sdv << 'END'
+  > card sd
+  > flags hc
+  > nums cap
+  > send 0 { else { } }
+  > send 8 { else { } }
+  > loop 1000 { send 55 { app {
+  >   send 41 0x40ff8000 { ocr.ready & ocr.block { set hd break } ocr.ready { break } else { } }
+  > } else { fault lost55 } } } else { fault busy }
+  > send 2 { answer { } else { fault cid } }
+  > send 3 { clean { } else { fault rca } }
+  > send 9 { answer { } else { fault csd } }
+  > send 7 { clean { } else { fault select } }
+  > send 16 { clean { } else { fault blen } }
+  > let cap = csd.blocks
+  > if cap >= 8 { } else { fault small }
+  > send 24 at by hc 7 { clean { give { ok { } else { fault cut } } } else { fault lost24 } }
+  > send 17 at block 8 { clean { recv { ok { } else { fault cut } } } else { fault lost17 } }
+  > done
+  > END
+  $ sdv verify five.sdv
+  five.sdv:7:52: error: `hd`: did you mean `hc`? [name]
+  five.sdv: no script (1 error)
+  [1]
+  $ sed 's/set hd/set hc/' five.sdv > four.sdv; sdv verify --no-run four.sdv
+  four.sdv:6:13: error: CMD55 is not legal in ready state [state]
+      card     ready: byte addresses, block length not 512
+      hint     a card whose answer is lost may be ready: turn again only on an answer, as `answer { } else { fault lost }`
+  four.sdv:17:1: error: CMD17 at block 8 is not legal in prg state [state]
+      card     prg: byte addresses, block length 512
+      hint     the card may be busy: `wait { ok { } else { fault busy } }` comes first
+  four.sdv:17:1: error: CMD17 at block 8 needs a card with block addresses [address]
+      card     prg: byte addresses, block length 512
+      hint     `at by hc` addresses both sorts of cards, where the case `ocr.ready & ocr.block` alone sets hc
+  four.sdv:17:1: error: CMD17 at block 8: the card may not have all blocks at block 8; what is known: the card has 8 blocks or more; cap is from 8 to 4294967296, not beyond the card's end [capacity]
+      card     prg: block addresses [hc]
+      hint     it needs `if cap >= 9 { } else { fault small }` before it
+  four.sdv: refused (4 errors)
+  [1]
+  $ sed 's/break } else { } }$/break } answer { } else { fault lost41 } }/; s/cap >= 8/cap >= 9/; s/give { ok { } /give { ok { wait { ok { } else { fault busy } } } /; s/at block 8/at by hc 8/' four.sdv > mended.sdv; sdv verify mended.sdv
+  mended.sdv: accepted, at most 2009 commands, gives at most 1 block
 
 Lines that end in CRLF, and a byte order mark, which begins no token.
 
@@ -77,6 +122,7 @@ What a review finds: of data a warning, of names and tests a note, which does no
   > END
   $ sdv verify open.sdv
   open.sdv:16:1: warning: done may come before the write of line 15 is confirmed [write]
+      hint     behind the wait, `send 13 { clean & state=tran { .. } else { .. } }` shows that it is stored
   open.sdv:17:1: note: no run comes to fault write [unreached]
   open.sdv: accepted, at most 2008 commands, gives at most 1 block (1 warning, 1 note)
   [1]
@@ -90,6 +136,7 @@ What a review finds: of data a warning, of names and tests a note, which does no
   $ sed 's/^done }.*/& # allow: erase/' open.sdv > other.sdv
   $ sdv verify other.sdv
   other.sdv:16:1: warning: done may come before the write of line 15 is confirmed [write]
+      hint     behind the wait, `send 13 { clean & state=tran { .. } else { .. } }` shows that it is stored
   other.sdv:17:1: note: no run comes to fault write [unreached]
   other.sdv: accepted, at most 2008 commands, gives at most 1 block (1 warning, 1 note)
   [1]
@@ -106,6 +153,7 @@ The run that breaks a script is kept where a folder is named, and sdv try repeat
   $ sdv verify --save runs refused_block_address.sdv slips.sdv
   refused_block_address.sdv:15:1: error: CMD17 at block 8 needs a card with block addresses [address]
       card     tran: byte addresses, block length 512
+      hint     `at by hc` addresses both sorts of cards, where the case `ocr.ready & ocr.block` alone sets hc
       mishap   none
       wrong    line 15: CMD17 comes to a card in tran state with byte addresses, and its argument is none of the block
       then     CMD17 00000008 timeout
@@ -129,6 +177,7 @@ The run that breaks a script is kept where a folder is named, and sdv try repeat
   $ sdv verify --no-run refused_block_address.sdv
   refused_block_address.sdv:15:1: error: CMD17 at block 8 needs a card with block addresses [address]
       card     tran: byte addresses, block length 512
+      hint     `at by hc` addresses both sorts of cards, where the case `ocr.ready & ocr.block` alone sets hc
   refused_block_address.sdv: refused (1 error)
   [1]
   $ sdv verify --save none refused_block_address.sdv
@@ -145,7 +194,7 @@ Objects of JSON: one for each remark, and one for each file.
 
   $ sdv verify --json smallest.sdv refused_block_address.sdv columns.sdv unread.sdv none.sdv
   {"blocks":0,"commands":1,"errors":0,"file":"smallest.sdv","notes":0,"verdict":"accepted","warnings":0}
-  {"card":"tran: byte addresses, block length 512","column":1,"file":"refused_block_address.sdv","kind":"address","line":15,"point":24,"run":{"blocks":256,"card":"card sd\nversion 2\nunit byte\ncsize 63\ncmult 0\nrbl 9\nrca 4660\n","line":15,"schedule":"","then":"CMD17 00000008 timeout\nfault read\n","trace":"CMD0 00000000 -\nCMD8 000001aa R7 000001aa\nCMD55 00000000 R1 00000120\nCMD41 40ff8000 R3 80ff8000\nCMD2 00000000 R2 005858534456202010000000010181\nCMD3 00000000 R6 12340500\nCMD9 12340000 R2 000000000009000fc0000000000000\nCMD7 12340000 R1 00000700\nCMD16 00000200 R1 00000900\nwrong CMD17 00000008\n"},"severity":"error","shape":"0000000000002804","text":"CMD17 at block 8 needs a card with block addresses"}
+  {"card":"tran: byte addresses, block length 512","column":1,"file":"refused_block_address.sdv","hint":"`at by hc` addresses both sorts of cards, where the case `ocr.ready & ocr.block` alone sets hc","kind":"address","line":15,"point":24,"run":{"blocks":256,"card":"card sd\nversion 2\nunit byte\ncsize 63\ncmult 0\nrbl 9\nrca 4660\n","line":15,"schedule":"","then":"CMD17 00000008 timeout\nfault read\n","trace":"CMD0 00000000 -\nCMD8 000001aa R7 000001aa\nCMD55 00000000 R1 00000120\nCMD41 40ff8000 R3 80ff8000\nCMD2 00000000 R2 005858534456202010000000010181\nCMD3 00000000 R6 12340500\nCMD9 12340000 R2 000000000009000fc0000000000000\nCMD7 12340000 R1 00000700\nCMD16 00000200 R1 00000900\nwrong CMD17 00000008\n"},"severity":"error","shape":"0000000000002804","text":"CMD17 at block 8 needs a card with block addresses"}
   {"errors":1,"file":"refused_block_address.sdv","notes":0,"verdict":"refused","warnings":0}
   {"column":26,"file":"columns.sdv","kind":"name","line":3,"point":null,"severity":"error","text":"`hd`: a name is declared once, behind `flags` or `nums`, and used as that"}
   {"errors":1,"file":"columns.sdv","notes":0,"verdict":"no script","warnings":0}
