@@ -5,7 +5,7 @@ use sdv_behavior::CardDesc;
 use sdv_card::State;
 use sdv_controller::Controller;
 use sdv_graph::Graph;
-use sdv_run::run_graph;
+use sdv_run::{RunFault, run_graph};
 use sdv_sim::Sim;
 use std::alloc::{AllocError, Global};
 use std::io::{self, Error, ErrorKind, Write};
@@ -32,6 +32,8 @@ struct Later {
     /// So many it still keeps.
     left: usize,
     kept: Vec<u8>,
+    /// Memory was refused for them.
+    failed: bool,
 }
 
 impl Later {
@@ -48,7 +50,10 @@ impl Later {
         self.left = self.left.saturating_sub(ends);
         match self.kept.push(byte) {
             Ok(()) => Ok(()),
-            Err(_) => Err(Error::from(ErrorKind::OutOfMemory)),
+            Err(_) => {
+                self.failed = true;
+                Err(Error::from(ErrorKind::OutOfMemory))
+            }
         }
     }
 }
@@ -89,13 +94,18 @@ pub fn run_on(
         before: lines_before(&run.trace),
         left: MOST_LINES,
         kept: Vec::new(alloc),
+        failed: false,
     };
     let end = run_graph(alloc, graph, &mut port, &input, &mut io::sink(), &mut trace);
     let Later {
         before: _,
         left: _,
         kept,
+        failed,
     } = trace;
+    if failed || matches!(end, Err(RunFault::Memory)) {
+        return Err(AllocError);
+    }
     Ok(Some(Beyond {
         lines: kept,
         is_cut: end.is_err(),
