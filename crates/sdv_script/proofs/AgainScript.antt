@@ -124,7 +124,7 @@ phase_longer phases.GiveBlocks ts = omega arith
 phase_longer phases.Wait ts = omega arith
 
 mutual
-  statements_deep : (b : Statements) (names : Declared) (others : List Token)
+  pub statements_deep : (b : Statements) (names : Declared) (others : List Token)
       → length others + statements_rank b ≤ length (statements_written names b others) + 1
   statements_deep nothing names others = omega arith
   statements_deep (first s rest) names others =
@@ -195,7 +195,7 @@ none_in_front k name (x ∷ xs) ys e =
 is_none_true : {A : Type 0} (o : Option A) → o ≡ None → is_none o ≡ true
 is_none_true o e = rw e refl
 
-new_name : (earlier names : List (List ℕ)) (limit : ℕ) (n : List ℕ) → place_of n (earlier ++ names) ≡ None → length n ≤ max_name → length names < limit
+pub new_name : (earlier names : List (List ℕ)) (limit : ℕ) (n : List ℕ) → place_of n (earlier ++ names) ≡ None → length n ≤ max_name → length names < limit
     → name_is_new earlier names limit n ≡ true
 new_name earlier names limit n e short lt =
     let p = none_in_front 0 n earlier names e in
@@ -274,7 +274,7 @@ flags-again : (flags : List (List ℕ)) (ts : List Token) → Follows true ts ×
 flags-again [] ts opens new few = opens.1
 flags-again (n ∷ ns) ts opens new few = names-again (n ∷ ns) true [] [] max_flags ts new (omega arith) (omega arith) opens.0
 
-kind-again : (k : Kind) (ts : List Token) → read_kind (Key (kind_word k) ∷ ts) ≡ Some (k, ts)
+pub kind-again : (k : Kind) (ts : List Token) → read_kind (Key (kind_word k) ∷ ts) ≡ Some (k, ts)
 kind-again Sd ts = refl
 kind-again Emmc ts = refl
 
@@ -289,11 +289,11 @@ declared-again names ts opens fit =
 
 -- SCRIPTS
 
-names_longer : (ns : List (List ℕ)) (ts : List Token) → length ts ≤ length (names_written ns ts)
+pub names_longer : (ns : List (List ℕ)) (ts : List Token) → length ts ≤ length (names_written ns ts)
 names_longer [] ts = omega arith
 names_longer (n ∷ ns) ts = let rest = names_longer ns ts in omega arith
 
-list_longer : (k : Keyword) (ns : List (List ℕ)) (ts : List Token) → length ts ≤ length (list_written k ns ts)
+pub list_longer : (k : Keyword) (ns : List (List ℕ)) (ts : List Token) → length ts ≤ length (list_written k ns ts)
 list_longer k [] ts = omega arith
 list_longer k (n ∷ ns) ts = let rest = names_longer (n ∷ ns) ts in omega arith
 

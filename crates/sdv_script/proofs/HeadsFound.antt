@@ -43,8 +43,8 @@ use Rattle.sdv_script.specs.Tokens.{Token, Key, Name, Number, Mark, tokens}
 use Rattle.sdv_script.proofs.LineLaws.{length-token_lines}
 
 -- whatever the lines of these tokens are: those that are found are the marked ones, and there are n
-record Reads (before : Before) (n : ℕ) (ts : List Token) (ms : List Bool) : Type 0 where
-  all : (ls : List ℕ) → length ls ≡ length ts → (found_lines before ts ls ≡ marked ms ls) × (length (marked ms ls) ≡ n)
+pub record Reads (before : Before) (n : ℕ) (ts : List Token) (ms : List Bool) : Type 0 where
+  pub all : (ls : List ℕ) → length ls ≡ length ts → (found_lines before ts ls ≡ marked ms ls) × (length (marked ms ls) ≡ n)
 
 -- a token that begins no statement
 skipped : (before : Before) (t : Token) (n : ℕ) (ts : List Token) (ms : List Bool) → begins_statement before t ≡ false → Reads (behind before t) n ts ms
@@ -52,7 +52,7 @@ skipped : (before : Before) (t : Token) (n : ℕ) (ts : List Token) (ms : List B
 skipped before t n ts ms e r [] len = absurd (omega (arith, len))
 skipped before t n ts ms e r (l ∷ ls) len = let p = r.all ls (omega (arith, len)) in (rw e p.0, p.1)
 
-skip : (before : Before) (t : Token) {n : ℕ} {ts : List Token} {ms : List Bool} → begins_statement before t ≡ false → Reads (behind before t) n ts ms
+pub skip : (before : Before) (t : Token) {n : ℕ} {ts : List Token} {ms : List Bool} → begins_statement before t ≡ false → Reads (behind before t) n ts ms
     → Reads before n (t ∷ ts) (false ∷ ms)
 skip before t {n} {ts} {ms} e r = record { all = skipped before t n ts ms e r }
 
@@ -62,19 +62,19 @@ begun : (before : Before) (t : Token) (n : ℕ) (ts : List Token) (ms : List Boo
 begun before t n ts ms e r [] len = absurd (omega (arith, len))
 begun before t n ts ms e r (l ∷ ls) len = let p = r.all ls (omega (arith, len)) in (rw e (ap (λ (found : List ℕ). l ∷ found) p.0), omega (arith, p.1))
 
-begin : (t : Token) {n : ℕ} {ts : List Token} {ms : List Bool} → begins_statement Other t ≡ true → Reads (behind Other t) n ts ms
+pub begin : (t : Token) {n : ℕ} {ts : List Token} {ms : List Bool} → begins_statement Other t ≡ true → Reads (behind Other t) n ts ms
     → Reads Other (1 + n) (t ∷ ts) (true ∷ ms)
 begin t {n} {ts} {ms} e r = record { all = begun Other t n ts ms e r }
 
-many : {before : Before} {m n : ℕ} {ts : List Token} {ms : List Bool} → m ≡ n → Reads before m ts ms → Reads before n ts ms
+pub many : {before : Before} {m n : ℕ} {ts : List Token} {ms : List Bool} → m ≡ n → Reads before m ts ms → Reads before n ts ms
 many {before} {m} {n} {ts} {ms} e r = subst (λ (k : ℕ). Reads before k ts ms) e r
 
 -- ONE TOKEN
 
-open_brace : {n : ℕ} {ts : List Token} {ms : List Bool} → Reads Other n ts ms → Reads Other n (Mark sign.OpenBrace ∷ ts) (false ∷ ms)
+pub open_brace : {n : ℕ} {ts : List Token} {ms : List Bool} → Reads Other n ts ms → Reads Other n (Mark sign.OpenBrace ∷ ts) (false ∷ ms)
 open_brace r = skip Other (Mark sign.OpenBrace) refl r
 
-close_brace : {n : ℕ} {ts : List Token} {ms : List Bool} → Reads Other n ts ms → Reads Other n (Mark sign.CloseBrace ∷ ts) (false ∷ ms)
+pub close_brace : {n : ℕ} {ts : List Token} {ms : List Bool} → Reads Other n ts ms → Reads Other n (Mark sign.CloseBrace ∷ ts) (false ∷ ms)
 close_brace r = skip Other (Mark sign.CloseBrace) refl r
 
 -- "}" "else" "{"
@@ -209,7 +209,7 @@ let_begins names ms r l =
 -- STATEMENTS
 
 mutual
-  rows : (names : Declared) (b : Statements) {n : ℕ} {ts : List Token} (ms : List Bool) → Reads Other n ts ms
+  pub rows : (names : Declared) (b : Statements) {n : ℕ} {ts : List Token} (ms : List Bool) → Reads Other n ts ms
       → Reads Other (statements_count b + n) (statements_written names b ts) (statements_heads names b ms)
   rows names nothing ms r = many (omega arith) r
   rows names (first s rest) ms r =
@@ -251,26 +251,26 @@ mutual
 
 -- SCRIPTS
 
-name_row : (ns : List (List ℕ)) {n : ℕ} {ts : List Token} (us : List Token) (ms : List Bool) → Reads Other n ts (inside us ms)
+pub name_row : (ns : List (List ℕ)) {n : ℕ} {ts : List Token} (us : List Token) (ms : List Bool) → Reads Other n ts (inside us ms)
     → Reads Other n (names_written ns ts) (inside (names_written ns us) ms)
 name_row [] us ms r = r
 name_row (x ∷ xs) us ms r = skip Other (Name x) refl (name_row xs us ms r)
 
-flag_list : (ns : List (List ℕ)) {n : ℕ} {ts : List Token} (us : List Token) (ms : List Bool) → Reads Other n ts (inside us ms)
+pub flag_list : (ns : List (List ℕ)) {n : ℕ} {ts : List Token} (us : List Token) (ms : List Bool) → Reads Other n ts (inside us ms)
     → Reads Other n (list_written word.Flags ns ts) (inside (list_written word.Flags ns us) ms)
 flag_list [] us ms r = r
 flag_list (x ∷ xs) us ms r = skip Other (Key word.Flags) refl (name_row (x ∷ xs) us ms r)
 
-number_list : (ns : List (List ℕ)) {n : ℕ} {ts : List Token} (us : List Token) (ms : List Bool) → Reads Other n ts (inside us ms)
+pub number_list : (ns : List (List ℕ)) {n : ℕ} {ts : List Token} (us : List Token) (ms : List Bool) → Reads Other n ts (inside us ms)
     → Reads Other n (list_written word.Nums ns ts) (inside (list_written word.Nums ns us) ms)
 number_list [] us ms r = r
 number_list (x ∷ xs) us ms r = skip Other (Key word.Nums) refl (name_row (x ∷ xs) us ms r)
 
-kind_skipped : (k : Kind) {n : ℕ} {ts : List Token} {ms : List Bool} → Reads Other n ts ms → Reads Other n (Key (kind_word k) ∷ ts) (false ∷ ms)
+pub kind_skipped : (k : Kind) {n : ℕ} {ts : List Token} {ms : List Bool} → Reads Other n ts ms → Reads Other n (Key (kind_word k) ∷ ts) (false ∷ ms)
 kind_skipped Sd r = skip Other (Key word.Sd) refl r
 kind_skipped Emmc r = skip Other (Key word.Emmc) refl r
 
-no_line : (ls : List ℕ) → length ls ≡ 0 → (found_lines Other [] ls ≡ marked [] ls) × (length (marked [] ls) ≡ 0)
+pub no_line : (ls : List ℕ) → length ls ≡ 0 → (found_lines Other [] ls ≡ marked [] ls) × (length (marked [] ls) ≡ 0)
 no_line ls len = (refl, refl)
 
 whole : (names : Declared) (b : Statements) → Reads Other (statements_count b) (script_written names b) (script_heads names b)

@@ -41,15 +41,15 @@ none_in_both k name (x ∷ xs) ys p q =
 
 -- LISTS OF NAMES
 
-record NamesTook (earlier names : List (List ℕ)) (limit : ℕ) (ts : List Token) (x : List (List ℕ) × List Token) : Type 0 where
-  later : List (List ℕ)
-  all : x.0 ≡ names ++ later
-  parts : ts ≡ names_written later x.1
-  new : AreNew (earlier ++ names) later
-  few : length names ≤ limit → length x.0 ≤ limit
-  some : 0 < length x.0
+pub record NamesTook (earlier names : List (List ℕ)) (limit : ℕ) (ts : List Token) (x : List (List ℕ) × List Token) : Type 0 where
+  pub later : List (List ℕ)
+  pub all : x.0 ≡ names ++ later
+  pub parts : ts ≡ names_written later x.1
+  pub new : AreNew (earlier ++ names) later
+  pub few : length names ≤ limit → length x.0 ≤ limit
+  pub some : 0 < length x.0
 
-no_more : (earlier names : List (List ℕ)) (limit : ℕ) (ts : List Token) (f : Bool) → (nat_lt 0 (length names) && f) ≡ true
+pub no_more : (earlier names : List (List ℕ)) (limit : ℕ) (ts : List Token) (f : Bool) → (nat_lt 0 (length names) && f) ≡ true
     → NamesTook earlier names limit ts (names, ts)
 no_more earlier names limit ts f e =
     record { later = []; all = sym (append-nil names); parts = refl; new = tt; few = λ le. le; some = ltb-true 0 (length names) (both _ f e).0 }
@@ -58,7 +58,7 @@ names_end : (w : Bool) (earlier names : List (List ℕ)) (limit : ℕ) (ts : Lis
     → IfSome {T = List (List ℕ) × List Token} (cond (nat_lt 0 (length names) && may_follow w ts) (Some (names, ts)) None) (NamesTook earlier names limit ts)
 names_end w earlier names limit ts = IfSome-given (nat_lt 0 (length names) && may_follow w ts) _ _ (λ e. no_more earlier names limit ts (may_follow w ts) e)
 
-one_name : (earlier names : List (List ℕ)) (limit : ℕ) (n : List ℕ) (ts : List Token) (x : List (List ℕ) × List Token)
+pub one_name : (earlier names : List (List ℕ)) (limit : ℕ) (n : List ℕ) (ts : List Token) (x : List (List ℕ) × List Token)
     → name_is_new earlier names limit n ≡ true → NamesTook earlier (names ++ n ∷ []) limit ts x → NamesTook earlier names limit (Name n ∷ ts) x
 one_name earlier names limit n ts x e took =
     let p = both _ (nat_le (length n) max_name) e in

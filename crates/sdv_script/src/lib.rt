@@ -12,6 +12,8 @@
 //! - `asks_by_table`: each command of a script's graph is that of a line of the command table (`specs/Asks.antt`).
 //! - `Script::graph` is the graph of the script's tree, with its names and the line of each statement's first token
 //!   (`specs/Lines.antt`). `one_graph`: each script has exactly one graph.
+//! - `statements` and what is exported beside it read the same statements in a text of another grammar, from a
+//!   `Cursor` on.
 #![tactic(auto)]
 
 mod blocks;
@@ -39,12 +41,22 @@ mod token;
 pub mod tree;
 mod values;
 
+pub use blocks::statements;
 pub use cursor::Cursor;
-pub use fault::{FaultKind, ScriptFault};
+pub use declared::{MAX_FLAGS, MAX_NUMBERS};
+pub use depth::Depth;
+pub use expect::{
+    close_brace, count, else_word, figure, kind_word, number_name, open_brace, place_of,
+};
+pub use fault::{FaultKind, ScriptFault, Stop};
+pub use flow::block_falls;
 pub use graph::{Action, Case, Graph, Point, Target};
 pub use graphed::one_graph;
+pub use heads::is_first_word;
 pub use keyword::{KEYWORDS, Keyword};
+pub use lines::lines_of_statements;
 pub use printing::{print, printed_tree};
+pub use progress::Progress;
 pub use reading::{MAX_BYTES, asks_by_table, one_tree, parse};
 pub use script::Script;
 pub use token::{Sign, Token};
@@ -52,3 +64,4 @@ pub use tree::{
     Address, Atom, Block, Cases, Change, Condition, Let, Names, Phase, Position, ScriptCommand,
     Stmt, Unit,
 };
+pub use values::{MAX_NAME, fault_name};
