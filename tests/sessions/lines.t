@@ -169,6 +169,72 @@ Once it gave up, it asks for nothing more.
   answer fault Line line 2: found "lost", expected R1 and 8 digits, timeout or damaged
   [2]
 
+A CSD that cannot be read ends the run. The trace has its CMD9 with the answer that came, which an audit judges.
+
+  $ up=$EXAMPLES/sd_bring_up.sdv; sdv certify $up > up.cert; sdv certify $EXAMPLES/emmc_bring_up.sdv > emmc_up.cert
+  $ meets() { sdv drive $1 $2 --trace trace < told > asked; echo $?; tail -n 1 asked; tail -n 1 trace; }
+  $ printf '%s\n' - 'R7 000001aa' 'R1 00000120' 'R3 c0ff8000' 'R2 005858534456202010000000010181' 'R6 12340500' 'R2 800000000009000000000000000000' > told
+  $ meets $up up.cert; sdv audit sd trace
+  run fault Reply
+  1
+  CMD9 12340000 R2
+  CMD9 12340000 R2 800000000009000000000000000000
+  line 7: CMD9 12340000: no card answers so: R2 800000000009000000000000000000; the register is no CSD of the kind, or tells another capacity than before
+  7 lines, 0 reckless, 1 that no card answers, 0 of another length, 0 beyond the capacity, 0 outside, 0 not followed, 0 left out
+  [1]
+  $ printf '%s\n' - 'R3 80ff8080' 'R2 000158534556455249100000000117' 'R1 00000500' 'R2 00000000000f03ffc0038000000000' 'R1 00000700' > told
+  $ meets $EXAMPLES/emmc_bring_up.sdv emmc_up.cert; sdv audit emmc trace
+  run fault Reply
+  1
+  CMD9 00010000 R2
+  CMD9 00010000 R2 00000000000f03ffc0038000000000
+  line 5: CMD9 00010000: no card answers so: R2 00000000000f03ffc0038000000000; the register is no CSD of the kind, or tells another capacity than before
+  5 lines, 0 reckless, 1 that no card answers, 0 of another length, 0 beyond the capacity, 0 outside, 0 not followed, 0 left out
+  [1]
+  $ sdv audit emmc trace --script $EXAMPLES/emmc_bring_up.sdv | tail -n 1
+  trace fault Script line 5
+  line 5, script line 9: CMD9 00010000 R2 00000000000f03ffc0038000000000: the script does not come here; it stands at CMD9
+
+Where an address has more than 32 bits, or the input ends, nothing is sent, and the trace ends with the event before.
+
+  $ { sed -e 's/^nums cap/nums cap last/' -e '/^done/d' $up; echo 'let last = cap - 1 send 17 at by hc last { clean { recv { ok { done } else { fault cut } } } else { fault rd } }'; } > wide.sdv
+  $ sdv certify wide.sdv > wide.cert
+  $ printf '%s\n' - 'R7 000001aa' 'R1 00000120' 'R3 80ff8000' 'R2 005858534456202010000000010181' 'R6 12340500' 'R2 400000000009003fffff0000000000' 'R1 00000700' 'R1 00000900' > told
+  $ meets wide.sdv wide.cert
+  run fault Reply
+  1
+  CMD16 00000200 R1
+  CMD16 00000200 R1 00000900
+  $ { sed '/^done/d' $up; echo 'send 24 at by hc 0 { clean { give { ok { } else { fault cut } } } else { fault wr } } wait { ok { done } else { fault late } }'; } > short.sdv
+  $ sdv certify short.sdv > short.cert
+  $ printf '%s\n' - 'R7 000001aa' 'R1 00000120' 'R3 c0ff8000' 'R2 005858534456202010000000010181' 'R6 12340500' 'R2 400000000009000000000000000000' 'R1 00000700' 'R1 00000900' 'R1 00000900' > told
+  $ meets short.sdv short.cert
+  run fault Input
+  1
+  CMD24 00000000 R1 out 1 lines 1
+  CMD24 00000000 R1 00000900
+
+Where the other side is gone at a phase or a wait, the trace has what the script does after that without a command.
+
+  $ head -c 512 /dev/zero > in
+  $ leaves() { sdv certify gone.sdv > gone.cert; sdv drive gone.sdv gone.cert --in in --trace trace < told > asked; echo $?; tail -n 2 trace; }
+  $ for cut in 'fault cut' 'send 13 { else { } } fault cut'; do
+  >   { sed '/^done/d' $up; echo "send 24 at by hc 0 { clean { give { ok { } else { $cut } } wait { ok { fault given } else { fault late } } } else { fault wr } }"; } > gone.sdv
+  >   leaves; done
+  answer fault Closed line 11: found the end, expected ok or cut
+  2
+  OUT 1 cut
+  fault cut
+  answer fault Closed line 11: found the end, expected ok or cut
+  2
+  CMD24 00000000 R1 00000900
+  OUT 1 cut
+  $ echo ok >> told; leaves
+  answer fault Closed line 12: found the end, expected ok or late
+  2
+  WAIT late
+  fault late
+
 The requests with their data lines; each line of blocks, as it is given and received.
 
   $ sdv certify $EXAMPLES/emmc_eight_lines.sdv > lines.cert

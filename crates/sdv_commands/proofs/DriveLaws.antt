@@ -34,7 +34,9 @@ use Rattle.sdv_commands.proofs.GivenLaws.{both_used, input_gave, text_gave}
 use Rattle.sdv_commands.specs.declared.drive.Given.{Given}
 use Rattle.sdv_commands.specs.declared.drive.Outcome.{Outcome}
 use Rattle.sdv_commands.specs.declared.drive.Outcome.TheVariants.{Lost, Ended, Stopped}
+use Rattle.sdv_commands.proofs.AnnouncingLaws.{took_none}
 use Rattle.sdv_commands.proofs.TalkLaws.{few_asked, said, spends_few, talks}
+use Rattle.sdv_commands.specs.RefusedAnswers.{RanTraced, TracesRefused, refused_in}
 use Rattle.sdv_commands.specs.Talk.{Talked, Talks, answer_lines, events_of, requests}
 use Rattle.sdv_program.specs.Outcomes.{outcome_of as ended_as}
 use Rattle.sdv_commands.specs.Drive.{AnswersOutcome, AreGiven, ComesOut, DriveFails, DrivesApart, EndsDrive, FailsToTrace, IsDrive, IsTraced, Takes, TellsIfEnded, TracesUnheard, outcome_of, uses_of}
@@ -55,27 +57,30 @@ pub drove : (given : Given) (outcome : Outcome) (out out' trace traced trace' : 
     → (a : Acceptance) → IsAccepted (string_bytes given.script) (string_bytes given.certificate) a
     → begun ≡ limited (Some a.bound) s → t ≡ limited s.left after
     → (result : Result End RunFault) (input left : List Block) → input ≡ blocks_of given.input.items
-    → Ran LineSteps a.graph (record { port = begun; input = input; out = out; trace = trace })
+    → RanTraced a.graph (record { port = begun; input = input; out = out; trace = trace })
     (record { port = after; input = left; out = out'; trace = traced }) result
     → TracesUnheard (unheard_command t) traced trace' → TellsIfEnded result t s' → outcome ≡ outcome_of s'.fault result → IsDrive given outcome out out' trace trace' s s'
 drove given outcome out out' trace traced trace' s begun after t s' well a accepted limit lifted result input left same ran unheard told came =
     let b = limited (Some a.bound) s in
     let w : World Streams = record { port = b; input = blocks_of given.input.items; out = out; trace = trace } in
     let w' : World Streams = record { port = after; input = left; out = out'; trace = traced } in
-    let within : Ran LineSteps a.graph (record { port = b; input = input; out = out; trace = trace }) w' result =
-    subst (λ p. Ran LineSteps a.graph (record { port = p; input = input; out = out; trace = trace }) w' result) limit ran in
-    let run : Ran LineSteps a.graph w w' result =
-    subst (λ i. Ran LineSteps a.graph (record { port = b; input = i; out = out; trace = trace }) w' result) same within in
-    let es = events_of LineSteps a.graph w w' result run in
-    let talk : Talks a.graph.kind es b after = talks a.graph.kind es b after well (moved_of LineSteps a.graph w w' result run) in
+    let within : RanTraced a.graph (record { port = b; input = input; out = out; trace = trace }) w' result =
+    subst (λ p. RanTraced a.graph (record { port = p; input = input; out = out; trace = trace }) w' result) limit ran in
+    let run : RanTraced a.graph w w' result =
+    subst (λ i. RanTraced a.graph (record { port = b; input = i; out = out; trace = trace }) w' result) same within in
+    let w'' : World Streams = record { port = after; input = left; out = out'; trace = run.printed } in
+    let es = events_of LineSteps a.graph w w'' result run.ran in
+    let talk : Talks a.graph.kind es b after = talks a.graph.kind es b after well (moved_of LineSteps a.graph w w'' result run.ran) in
     record {
       acceptance = a;
       accepted = accepted;
       result = result;
       after = after;
       left = left;
+      printed = run.printed;
       traced = traced;
-      ran = run;
+      ran = run.ran;
+      refused = run.refused;
       talks = talk;
       few = few_asked a.graph.kind a.bound es b after refl talk;
       unheard = subst (λ p. TracesUnheard (unheard_command p) traced trace') lifted unheard;
@@ -129,7 +134,7 @@ talked_at (Some why) g es s t e well talk = absurd (cc well)
 
 module _ (files : Files) (names : DriveNames) (given : Given) (are : AreGiven files names given) (s s' : Streams) where
   -- the parts of a run that came out so
-  module _ (out out' trace traced trace' : Option (List ℕ)) (outs : Takes files names.output out out') (traces : Takes files names.trace trace trace')
+  module _ (out out' trace printed traced trace' : Option (List ℕ)) (outs : Takes files names.output out out') (traces : Takes files names.trace trace trace')
       (a : Acceptance) (accepted : IsAccepted (string_bytes given.script) (string_bytes given.certificate) a) (after : Streams) (left : List Block)
       (unheard : TracesUnheard (unheard_command after) traced trace') where
     abbrev begun : Streams
@@ -139,14 +144,14 @@ module _ (files : Files) (names : DriveNames) (given : Given) (are : AreGiven fi
     world = record { port = begun; input = blocks_of given.input.items; out = out; trace = trace }
 
     abbrev world' : World Streams
-    world' = record { port = after; input = left; out = out'; trace = traced }
+    world' = record { port = after; input = left; out = out'; trace = printed }
 
-    ends_so : (end : End) (ran : Ran LineSteps a.graph world world' (Ok end)) → Talks a.graph.kind ran.events begun after
+    ends_so : (end : End) (ran : Ran LineSteps a.graph world world' (Ok end)) → TracesRefused after.fault None printed traced → Talks a.graph.kind ran.events begun after
         → TellsIfEnded (Ok end) (limited s.left after) s' → s'.fault ≡ None → EndsDrive files names end s s'
-    ends_so end ran talk told well =
+    ends_so end ran refused talk told well =
         let was : WasTold (end_line end) (limited s.left after) s' = was_told (end_line end) told.0 (limited s.left after) s' told.1 well in
         let none : unheard_command after ≡ None = ap (λ o. unheard_at o after.unheard) was.well in
-        let same : trace' ≡ traced = subst (λ u. TracesUnheard u traced trace') none unheard in
+        let same : trace' ≡ printed = subst (λ u. TracesUnheard u traced trace') none unheard ∙ took_none after.fault printed traced refused in
         let talked : Talked a.graph.kind ran.events begun after = talked_at after.fault a.graph ran.events begun after refl was.well talk in
         record {
           given = given;
@@ -171,11 +176,11 @@ module _ (files : Files) (names : DriveNames) (given : Given) (are : AreGiven fi
         }
 
     ends_by : (end : End) (result : Result End RunFault) (ran : Ran LineSteps a.graph world world' result)
-        → Talks a.graph.kind (events_of LineSteps a.graph world world' result ran) begun after → TellsIfEnded result (limited s.left after) s'
+        → TracesRefused after.fault (refused_in a.graph world world' result ran) printed traced → Talks a.graph.kind (events_of LineSteps a.graph world world' result ran) begun after → TellsIfEnded result (limited s.left after) s'
         → (s'.fault ≡ None) × (result ≡ Ok end) → EndsDrive files names end s s'
-    ends_by end (Ok e) ran talk told is =
-        let same : e ≡ end = cc is.1 in subst (λ x. EndsDrive files names x s s') same (ends_so e ran talk told is.0)
-    ends_by end (Err fault) ran talk told is = absurd (cc is.1)
+    ends_by end (Ok e) ran refused talk told is =
+        let same : e ≡ end = cc is.1 in subst (λ x. EndsDrive files names x s s') same (ends_so e ran refused talk told is.0)
+    ends_by end (Err fault) ran refused talk told is = absurd (cc is.1)
 
     -- where memory was refused nothing was asked
     quiet_by : (result : Result End RunFault) (ran : Ran LineSteps a.graph world world' result) → TellsIfEnded result (limited s.left after) s'
@@ -188,14 +193,14 @@ module _ (files : Files) (names : DriveNames) (s s' : Streams) where
   ends_of : (end : End) → ComesOut files names (Ended end) s s' → EndsDrive files names end s s'
   ends_of end came =
       let drive = came.traced.drive in
-      ends_by files names came.given came.are_given s s' came.out came.out' came.traced.trace drive.traced came.traced.trace' came.taken came.traced.traced
-      drive.acceptance drive.accepted drive.after drive.left drive.unheard end drive.result drive.ran drive.talks drive.told
+      ends_by files names came.given came.are_given s s' came.out came.out' came.traced.trace drive.printed drive.traced came.traced.trace' came.taken came.traced.traced
+      drive.acceptance drive.accepted drive.after drive.left drive.unheard end drive.result drive.ran drive.refused drive.talks drive.told
       (ended_so end s'.fault drive.result drive.came_out)
 
   quiet_of : ComesOut files names (Stopped runs.Memory) s s' → s' ≡ s
   quiet_of came =
       let drive = came.traced.drive in
-      quiet_by files names came.given came.are_given s s' came.out came.out' came.traced.trace drive.traced came.traced.trace' came.taken came.traced.traced
+      quiet_by files names came.given came.are_given s s' came.out came.out' came.traced.trace drive.printed drive.traced came.traced.trace' came.taken came.traced.traced
       drive.acceptance drive.accepted drive.after drive.left drive.unheard drive.result drive.ran drive.told (no_memory s'.fault drive.result drive.came_out)
 
   pub answered : (outcome : Outcome) (r : Result (Unit {0}) Fault) → AnswersOutcome outcome r → ComesOut files names outcome s s'

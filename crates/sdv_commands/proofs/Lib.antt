@@ -11,6 +11,7 @@ mod FrameTextLaws
 mod GraphLaws
 mod ReportLaws
 mod ScriptFaultLaws
+mod TracedLaws
 pub mod AskedLaws
 pub mod BesideLaws
 pub mod CardLaws

@@ -36,6 +36,7 @@ use Rattle.sdv_commands.specs.Run.{FileUse, GivesInput, IsUnusable, Receives, as
 use Rattle.sdv_commands.specs.declared.drive.Given.{Given}
 use Rattle.sdv_commands.specs.declared.drive.Outcome.{Outcome}
 use Rattle.sdv_commands.specs.declared.drive.Outcome.TheVariants.{Lost, Ended, Stopped}
+use Rattle.sdv_commands.specs.RefusedAnswers.{TracesRefused, refused_in}
 use Rattle.sdv_commands.specs.Talk.{AreAnnounced, AreAnswers, Talks, answer_lines, answered, asked, events_of, requests, texts_of_answers}
 
 -- THE FILES
@@ -87,10 +88,13 @@ pub record IsDrive (given : Given) (outcome : Outcome) (out out' trace trace' : 
   -- after the last event
   pub after : Streams
   pub left : List Block
+  -- the trace with the lines of the run, and then with that of the command whose answer the run refused
+  pub printed : Option (List ℕ)
   pub traced : Option (List ℕ)
   pub ran : Ran LineSteps acceptance.graph
       (record { port = limited (Some acceptance.bound) s; input = blocks_of given.input.items; out = out; trace = trace })
-      (record { port = after; input = left; out = out'; trace = traced }) result
+      (record { port = after; input = left; out = out'; trace = printed }) result
+  pub refused : TracesRefused after.fault (refused_in acceptance.graph _ _ result ran) printed traced
   pub talks : Talks acceptance.graph.kind (events_of LineSteps acceptance.graph _ _ result ran)
       (limited (Some acceptance.bound) s) after
   -- the commands whose requests were written, in whole or in part

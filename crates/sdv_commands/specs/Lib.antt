@@ -16,6 +16,7 @@ pub mod Given
 pub mod Graph
 pub mod NewImages
 pub mod Page
+pub mod RefusedAnswers
 pub mod Registers
 pub mod Report
 pub mod Run

@@ -9,10 +9,11 @@
 //!   stopped, and image, output and file of registers have what the run left. Over a file of the machine nothing is
 //!   claimed of its blocks, since anyone may write them.
 //! - `drive` asks the requests of a run of the verified script and nothing else, at most the certified number of
-//!   commands (`specs/Drive.antt`, `specs/Talk.antt`). A command that was not answered is the last line of its trace. Where the other side answers as a port that shows a card of the
-//!   profile, the run is beside that card, also where it breaks off (`specs/BesideCard.antt`). `card` makes one call
-//!   of the simulator for each request, in order; whatever ends it, the image's file has the card's blocks, or the
-//!   fault names that file.
+//!   commands (`specs/Drive.antt`, `specs/Talk.antt`). A command that was not answered is the last line of its trace, as
+//!   is one whose answer the run does not go on with (`specs/RefusedAnswers.antt`). Where the other side answers as a port
+//!   that shows a card of the profile, the run is beside that card, also where it breaks off (`specs/BesideCard.antt`).
+//!   `card` makes one call of the simulator for each request, in order; whatever ends it, the image's file has the card's
+//!   blocks, or the fault names that file.
 //! - `check` prints `accepted` and a bound only where each run of the script is as the headline says. `certify` prints
 //!   only the script's own certificate. `explain` may show a run only where that run refutes the script.
 //! - `try` stops before what is not allowed, and the line on standard error has the reason; such a run refutes the

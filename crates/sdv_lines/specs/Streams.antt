@@ -5,6 +5,7 @@ use Rattle.std.specs.Io.KnownBytes.{Appends, Consumes, IsAtEnd}
 use Rattle.sdv_frames.specs.declared.command.Command.{Command}
 use Rattle.sdv_frames.specs.declared.reply.Expect.{Expect}
 use Rattle.sdv_frames.specs.declared.fault.FrameFault.TheVariants.{Length}
+use Rattle.sdv_card.specs.declared.answer.Answer.{Answer}
 use Rattle.sdv_card.specs.declared.answer.Answer.TheVariants.{Damaged}
 use Rattle.sdv_card.specs.declared.answer.DataEnd.TheVariants.{Cut}
 use Rattle.sdv_card.specs.declared.answer.WaitEnd.TheVariants.{Late}
@@ -170,6 +171,20 @@ streams_of remaining contents port = record {
   fault = port.fault;
   unheard = port.unheard;
 }
+
+-- THE COMMAND THAT WAS ANSWERED LAST, with its answer, which the port keeps until it is taken
+
+-- after a call, by why the port gave up: the command of the call where it was answered, or else the one before
+abbrev pub answered_after : Call → Return → Option PortFault → Option (Command × Answer) → Option (Command × Answer)
+answered_after (Exchange command expect) (Answered answer) None before = Some (command, answer)
+answered_after call returned fault before = before
+
+-- THE STEPS OF A PORT: those of its streams, and it keeps the command that was answered
+abbrev pub PortSteps : {R W : Type 0} → (R → Option (List ℕ)) → (W → Option (List ℕ)) → LinePort R W → Call → Return →
+    LinePort R W → Type 0
+PortSteps remaining contents port call returned port' =
+    LineSteps (streams_of remaining contents port) call returned (streams_of remaining contents port')
+    × (port'.answered ≡ answered_after call returned port'.fault port.answered)
 
 -- the command that was not answered because the streams failed, if that was one
 abbrev pub unheard_at : Option PortFault → Option (Command × Expect) → Option (Command × Expect)

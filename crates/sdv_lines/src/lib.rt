@@ -15,6 +15,7 @@
 //! - If a stream fails, ends or brings no answer, the port keeps why, and the command that was not answered, and from
 //!   then on neither reads nor writes; it answers damaged, cut or late. At a command beyond `limit_commands` it gives up
 //!   in the same way, and writes nothing (`Spends`).
+//! - It keeps the command that was answered last, with the answer, until `take_answered` takes it (`PortSteps`).
 //! - `serve` makes one call for each request, in order. It ends well at the host's last line, or where no byte is left
 //!   between two requests, and nowhere else; else it names the first request that it did not serve, by its line.
 //! - `laws::shows_the_card_of_the_other_side`: if the other side makes each call once, by a port that shows a card and

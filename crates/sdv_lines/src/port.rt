@@ -5,7 +5,7 @@ ghost use Rattle.sdv_card.specs.Port.{Exchange};
 ghost use Rattle.sdv_card.proofs.PortLaws.{shows_none_keeps};
 ghost use Rattle.sdv_trace.specs.Trace.{end_line};
 ghost use Rattle.sdv_lines.specs.Due.{Announces};
-ghost use Rattle.sdv_lines.specs.Streams.{IsNew, LineSteps, TakesCommand, TellsEnd, limited, streams_of, unheard_command};
+ghost use Rattle.sdv_lines.specs.Streams.{IsNew, PortSteps, TakesCommand, TellsEnd, limited, streams_of, unheard_command};
 
 use crate::ask;
 use crate::due::{Announcement, Due, due_of};
@@ -37,6 +37,8 @@ pub struct LinePort<R, W> {
     application: bool,
     /// The command that was sent when its streams failed, if one was, and what it waited for.
     unheard: Option<(Command, Expect)>,
+    /// The command that was answered last, with its answer, until it is taken.
+    answered: Option<(Command, Answer)>,
     /// The line that it read last.
     heard: Line,
 }
@@ -45,7 +47,8 @@ impl<R: Read, W: Write> LinePort<R, W> {
     /// A port that reads answers from the reader, and writes requests to the writer. Both are to be buffered. It sends any
     /// number of commands.
     pub fn new(reader: R, writer: W) -> Self
-        ensures { IsNew (R.remaining reader) (W.contents writer) (streams_of R.remaining W.contents result) }
+        ensures new { IsNew (R.remaining reader) (W.contents writer) (streams_of R.remaining W.contents result) }
+        ensures none { result.answered ≡ None }
     {
         LinePort {
             reader,
@@ -55,6 +58,7 @@ impl<R: Read, W: Write> LinePort<R, W> {
             announced: None,
             application: false,
             unheard: None,
+            answered: None,
             heard: Line::new(),
         }
     }
@@ -75,6 +79,15 @@ impl<R: Read, W: Write> LinePort<R, W> {
             Some(PortFault::Lines(_)) => self.unheard,
             _ => None,
         }
+    }
+
+    /// Takes the command that was answered last, with its answer: none where no command was answered since one was taken.
+    pub fn take_answered(&mut self) -> Option<(Command, Answer)>
+        ensures taken { result ≡ self.old.answered }
+        ensures none { self.new.answered ≡ None }
+        ensures same { streams_of R.remaining W.contents self.new ≡ streams_of R.remaining W.contents self.old }
+    {
+        self.answered.take()
     }
 
     /// What people are told of the line that was read last.
@@ -109,8 +122,9 @@ impl<R: Read, W: Write> LinePort<R, W> {
 
     /// Takes one of the commands that are left. False: none is.
     fn take_command(&mut self) -> bool
-        ensures { TakesCommand result (streams_of R.remaining W.contents self.old)
+        ensures taken { TakesCommand result (streams_of R.remaining W.contents self.old)
             (streams_of R.remaining W.contents self.new) }
+        ensures answered { self.new.answered ≡ self.old.answered }
     {
         match self.commands_left {
             None => true,
@@ -147,13 +161,11 @@ impl<R: Read, W: Write> LinePort<R, W> {
 }
 
 impl<R: Read, W: Write> CardPort for LinePort<R, W> {
-    ghost steps = { λ p call returned p'. LineSteps (streams_of R.remaining W.contents p) call returned
-        (streams_of R.remaining W.contents p') };
+    ghost steps = { PortSteps R.remaining W.contents };
 
     ghost card = { λ p. None };
 
-    ghost keeps_tables = { shows_none_keeps (λ p call returned p'. LineSteps (streams_of R.remaining W.contents p) call
-        returned (streams_of R.remaining W.contents p')) };
+    ghost keeps_tables = { shows_none_keeps (PortSteps R.remaining W.contents) };
 
     fn exchange(&mut self, command: Command, expect: Expect) -> Answer {
         if self.fault.is_some() {
@@ -175,6 +187,7 @@ impl<R: Read, W: Write> CardPort for LinePort<R, W> {
         ) {
             Ok(answer) => {
                 self.application = is_application(command, &answer);
+                self.answered = Some((command, answer));
                 answer
             }
             Err(fault) => {

@@ -1,11 +1,11 @@
 use Rattle.std.proofs.Common.{◌≡◌, ◌∙◌, ap, subst, Some}
 use Rattle.std.specs.Prelude.{string_bytes}
 use Rattle.sdv_check.specs.Verified.{IsAccepted}
-use Rattle.sdv_run.specs.Ran.{Ran}
 use Rattle.sdv_run.specs.Step.{World}
-use Rattle.sdv_lines.specs.Streams.{LineSteps, Streams, limited}
+use Rattle.sdv_lines.specs.Streams.{Streams, limited}
 use Rattle.sdv_commands.specs.Run.{blocks_of}
 use Rattle.sdv_commands.proofs.RunLaws.{chunks_are_blocks}
+use Rattle.sdv_commands.specs.RefusedAnswers.{RanTraced}
 use Rattle.sdv_commands.specs.Drive.{TracesUnheard, outcome_of}
 use Rattle.sdv_commands.proofs.DriveLaws.{drove, streams}
 use Rattle.sdv_commands.proofs.drive.drive_given.Goals as goal
@@ -32,7 +32,7 @@ returns-clause-drove g c =
       out = g.O.Write.contents c.run_announced-end.new.out;
       trace = g.T.Write.contents c.run_announced-end.new.trace;
     } in
-    let ran = subst (λ graph. Ran LineSteps graph w w' c.run_announced-end.result) c.graph.ensures.graph c.run_announced-end.ensures.1 in
+    let ran = subst (λ graph. RanTraced graph w w' c.run_announced-end.result) c.graph.ensures.graph c.run_announced-end.ensures.1 in
     drove given c.outcome_of.result _ _ _ _ _ s (streams remaining contents c.limit_commands-before.new.self)
     (streams remaining contents c.run_announced-end.new.port) (streams remaining contents c.limit_commands.new.self)
     (streams remaining contents c.tell_if_ended.new.port) c.requires c.in_ok-accepted.accepted accepted

@@ -1,4 +1,4 @@
-use Rattle.std.proofs.Common.{◌≡◌, ◌≤◌, ◌*◌, ap, arith, rules, refl, sym, subst, length}
+use Rattle.std.proofs.Common.{◌≡◌, ◌≤◌, ◌*◌, arith, rules, refl, sym, subst, length}
 use Rattle.hex.proofs.HexLemmas.{decode_of-ok}
 use Rattle.sdv_lines.specs.Texts.{AreDigits, trimmed}
 use Rattle.sdv_lines.proofs.AnswerLaws.{decoded, undecoded}

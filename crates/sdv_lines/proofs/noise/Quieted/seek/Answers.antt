@@ -1,4 +1,3 @@
-use Rattle.std.proofs.Common.{◌≡◌}
 use Rattle.sdv_lines.proofs.NoiseLaws.{keeps_both, quiets_closed}
 use Rattle.sdv_lines.proofs.noise.Quieted.seek.Goals as goal
 

@@ -1,4 +1,3 @@
-use Rattle.std.proofs.Common.{◌≡◌}
 use Rattle.std.specs.Io.KnownBytes.{Keeps}
 use Rattle.sdv_lines.specs.Noise.{quiets}
 use Rattle.sdv_lines.specs.Fronts.{room_left}

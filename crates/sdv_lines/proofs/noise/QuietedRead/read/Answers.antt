@@ -1,4 +1,4 @@
-use Rattle.std.proofs.Common.{◌≡◌, ◌∙◌, sym, arith}
+use Rattle.std.proofs.Common.{◌∙◌, sym, arith}
 use Rattle.sdv_lines.proofs.NoiseLaws.{read_held, read_on}
 use Rattle.sdv_lines.proofs.noise.QuietedRead.read.Goals as goal
 

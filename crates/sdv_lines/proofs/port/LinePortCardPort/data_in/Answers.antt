@@ -18,4 +18,4 @@ returns-in-Err g c =
       unheard = None;
     } in
     let well : c.args.self.now.fault ≡ None = search rules in
-    gave_up None (DataIn c.args.lines (length c.args.blocks.now)) (λ end. BlocksIn end c.data_in.new.blocks) (BlocksIn Cut c.data_in.new.blocks) s s' c.data_in.result c.in-Err.fault refl well c.data_in.ensures c.in-Err.is (spends_none s.left) refl refl (refl, search rules)
+    (gave_up None (DataIn c.args.lines (length c.args.blocks.now)) (λ end. BlocksIn end c.data_in.new.blocks) (BlocksIn Cut c.data_in.new.blocks) s s' c.data_in.result c.in-Err.fault refl well c.data_in.ensures c.in-Err.is (spends_none s.left) refl refl (refl, search rules), refl)

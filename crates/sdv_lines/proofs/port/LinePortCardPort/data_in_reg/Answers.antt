@@ -18,4 +18,4 @@ returns-in-Err g c =
       unheard = None;
     } in
     let well : c.args.self.now.fault ≡ None = search rules in
-    gave_up None (DataInRegister c.args.lines (length c.args.bytes.now)) (λ end. RegisterIn end c.data_in_register.new.bytes) (RegisterIn Cut c.data_in_register.new.bytes) s s' c.data_in_register.result c.in-Err.fault refl well c.data_in_register.ensures c.in-Err.is (spends_none s.left) refl refl (refl, search rules)
+    (gave_up None (DataInRegister c.args.lines (length c.args.bytes.now)) (λ end. RegisterIn end c.data_in_register.new.bytes) (RegisterIn Cut c.data_in_register.new.bytes) s s' c.data_in_register.result c.in-Err.fault refl well c.data_in_register.ensures c.in-Err.is (spends_none s.left) refl refl (refl, search rules), refl)

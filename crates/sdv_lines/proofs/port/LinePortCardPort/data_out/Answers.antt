@@ -18,4 +18,4 @@ returns-in-Err g c =
       unheard = None;
     } in
     let well : c.args.self.now.fault ≡ None = search rules in
-    gave_up None (DataOut c.args.lines c.args.blocks.now) (λ end. BlocksOut end) (BlocksOut Cut) s s' c.data_out.result c.in-Err.fault refl well c.data_out.ensures c.in-Err.is (spends_none s.left) refl refl refl
+    (gave_up None (DataOut c.args.lines c.args.blocks.now) (λ end. BlocksOut end) (BlocksOut Cut) s s' c.data_out.result c.in-Err.fault refl well c.data_out.ensures c.in-Err.is (spends_none s.left) refl refl refl, refl)

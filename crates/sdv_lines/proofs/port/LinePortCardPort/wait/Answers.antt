@@ -18,4 +18,4 @@ returns-in-Err g c =
       unheard = None;
     } in
     let well : c.args.self.now.fault ≡ None = search rules in
-    gave_up None (WaitWhileBusy) (λ end. Waited end) (Waited Late) s s' c.wait.result c.in-Err.fault refl well c.wait.ensures c.in-Err.is (spends_none s.left) refl refl refl
+    (gave_up None (WaitWhileBusy) (λ end. Waited end) (Waited Late) s s' c.wait.result c.in-Err.fault refl well c.wait.ensures c.in-Err.is (spends_none s.left) refl refl refl, refl)
