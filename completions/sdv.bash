@@ -73,8 +73,9 @@ _sdv() {
     try:*)
         case $before:$word:$place in
         --in:* | --out:*) _sdv_files "$word" '*' ;;
+        --card:*) _sdv_files "$word" '*.card' ;;
         --only:*) _sdv_words "$word" "wrong" ;;
-        *:-*:*) _sdv_words "$word" "--in --out --each --only --json --lines" ;;
+        *:-*:*) _sdv_words "$word" "--in --out --each --card --only --json --lines" ;;
         *:0) _sdv_files "$word" '*.sdv' ;;
         *:1) _sdv_files "$word" '*.card' ;;
         *:2) _sdv_image "$word" ;;

@@ -70,6 +70,7 @@ complete -c sdv -n "__fish_seen_subcommand_from explain" -l dot -d "Print the gr
 complete -c sdv -n "__fish_seen_subcommand_from explain" -l no-faults -d "Leave the statements that end in a fault out of the graph"
 complete -c sdv -n "__fish_seen_subcommand_from card" -l describe -d "Print the description in words"
 complete -c sdv -n "__fish_seen_subcommand_from try" -l each -d "Print how each run with one mishap ends"
+complete -c sdv -n "__fish_seen_subcommand_from try" -l card -r -k -a "(__fish_complete_suffix .card)" -d "One more card for these runs"
 complete -c sdv -n "__fish_seen_subcommand_from try" -l only -x -a wrong -d "Tell of these runs those alone that are wrong"
 complete -c sdv -n "__fish_seen_subcommand_from try" -l lines -d "Print where the host changes its data lines"
 complete -c sdv -n "__sdv_at 1 audit" -k -a "(__fish_complete_suffix .trace)"

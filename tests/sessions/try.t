@@ -121,7 +121,7 @@ What is given is refused: another kind of card, no script, no card, and files th
   cannot use nofile
   [2]
   $ sdv try early.sdv $card
-  usage: IMAGE is missing: sdv try SCRIPT CARD IMAGE [SCHEDULE] [--in FILE] [--out FILE] [--each] [--only wrong] [--json] [--lines]
+  usage: IMAGE is missing: sdv try SCRIPT CARD IMAGE [SCHEDULE] [--in FILE] [--out FILE] [--each] [--card CARD].. [--only wrong] [--json] [--lines]
   [2]
   $ sdv try early.sdv $card new:1024 --out /nofolder/file
   cannot use /nofolder/file

@@ -54,6 +54,51 @@ Blocks that the script gives, and the image of a file, which stays as it was.
   without a mishap: stopped
   with one: 0 wrong, 64 stopped, 0 fault, 0 done
 
+Further cards have blocks of zeros. There is a table for each card, and an object of JSON names its card.
+
+  $ cp $EXAMPLES/sd_block.card $EXAMPLES/sd_byte.card . && sdv try --each $EXAMPLES/hosts/uboot_mended.sdv sd_block.card new:1024 --card sd_byte.card --in blocks --only wrong
+  beside sd_block.card
+  without a mishap: done
+  with one: 0 wrong, 0 stopped, 71 fault, 73 done
+  beside sd_byte.card
+  without a mishap: done
+  with one: 0 wrong, 0 stopped, 68 fault, 76 done
+  $ sdv try --each $EXAMPLES/hosts/uboot_read_many.sdv --card sd_byte.card sd_block.card new:1024 --card sd_block.card --only wrong
+  beside sd_block.card
+  line 24    CMD18       wrong: answer lost, error shown, error while busy, OUT_OF_RANGE, ILLEGAL_COMMAND
+  line 24    CMD12       wrong: lost, refused, lost while busy, ERASE_SEQ_ERROR
+  without a mishap: done
+  with one: 9 wrong, 0 stopped, 48 fault, 63 done
+  beside sd_byte.card
+  line 24    CMD18       wrong: answer lost, error shown, error while busy, OUT_OF_RANGE, ILLEGAL_COMMAND
+  line 24    CMD12       wrong: lost, refused, lost while busy, ERASE_SEQ_ERROR
+  without a mishap: done
+  with one: 9 wrong, 0 stopped, 45 fault, 66 done
+  beside sd_block.card
+  line 24    CMD18       wrong: answer lost, error shown, error while busy, OUT_OF_RANGE, ILLEGAL_COMMAND
+  line 24    CMD12       wrong: lost, refused, lost while busy, ERASE_SEQ_ERROR
+  without a mishap: done
+  with one: 9 wrong, 0 stopped, 48 fault, 63 done
+  [1]
+  $ sdv try --each early.sdv sd_block.card new:1024 --card sd_byte.card --json
+  {"card":"sd_block.card","done":[],"event":0,"fault":[],"line":2,"name":"CMD0","stopped":[],"wrong":[]}
+  {"card":"sd_block.card","done":0,"fault":0,"plain":"wrong","stopped":0,"wrong":0}
+  {"card":"sd_byte.card","done":[],"event":0,"fault":[],"line":2,"name":"CMD0","stopped":[],"wrong":[]}
+  {"card":"sd_byte.card","done":0,"fault":0,"plain":"wrong","stopped":0,"wrong":0}
+  [1]
+  $ printf 'card sd\nversion 1\nunit byte\ncsize 3\ncmult 0\nrbl 9\nrca 1\n' > old.card
+  $ printf 'card sd\nsend 0 { else { } }\nsend 8 { echo { fault new } else { } }\nsend 8 { else { } }\ndone\n' > twice.sdv; sdv try --each twice.sdv sd_block.card new:1024 --card old.card --only wrong
+  beside sd_block.card
+  line 3     CMD8        wrong: lost, answer lost, lost while busy
+  without a mishap: fault
+  with one: 3 wrong, 0 stopped, 0 fault, 0 done
+  beside old.card
+  line 3     CMD8        wrong: lost, answer lost, lost while busy
+  line 4     CMD8        wrong: lost, answer lost, lost while busy
+  without a mishap: wrong
+  with one: 6 wrong, 0 stopped, 0 fault, 0 done
+  [1]
+
 What is given is refused.
 
   $ sdv try --each early.sdv $EXAMPLES/emmc_byte.card new:16
@@ -82,7 +127,20 @@ What is given is refused.
   [1]
   $ sdv try --each early.sdv $EXAMPLES/sd_byte.card new:16 > /dev/full
   [2]
+  $ sdv try --each early.sdv sd_byte.card new:16 --card nofile
+  cannot use nofile
+  [2]
+  $ sdv try --each early.sdv sd_byte.card new:16 --card sd_block.card --card $EXAMPLES/emmc_byte.card
+  the script is for another kind of card
+  [1]
+  $ sdv try --each early.sdv sd_byte.card new:16 --card early.sdv
+  card fault Description
+  [1]
+  $ sdv try early.sdv sd_byte.card new:16 --card sd_block.card; sdv try --each early.sdv sd_byte.card new:16 --card
+  usage: --card, --only and --json need --each: sdv try SCRIPT CARD IMAGE [SCHEDULE] [--in FILE] [--out FILE] [--each] [--card CARD].. [--only wrong] [--json] [--lines]
+  usage: --card needs CARD: sdv try SCRIPT CARD IMAGE [SCHEDULE] [--in FILE] [--out FILE] [--each] [--card CARD].. [--only wrong] [--json] [--lines]
+  [2]
   $ sdv try --each early.sdv $EXAMPLES/sd_byte.card new:16 schedule; sdv try --each --lines early.sdv $EXAMPLES/sd_byte.card new:16
-  usage: --each goes with neither SCHEDULE, --out nor --lines: sdv try SCRIPT CARD IMAGE [SCHEDULE] [--in FILE] [--out FILE] [--each] [--only wrong] [--json] [--lines]
-  usage: --each goes with neither SCHEDULE, --out nor --lines: sdv try SCRIPT CARD IMAGE [SCHEDULE] [--in FILE] [--out FILE] [--each] [--only wrong] [--json] [--lines]
+  usage: --each goes with neither SCHEDULE, --out nor --lines: sdv try SCRIPT CARD IMAGE [SCHEDULE] [--in FILE] [--out FILE] [--each] [--card CARD].. [--only wrong] [--json] [--lines]
+  usage: --each goes with neither SCHEDULE, --out nor --lines: sdv try SCRIPT CARD IMAGE [SCHEDULE] [--in FILE] [--out FILE] [--each] [--card CARD].. [--only wrong] [--json] [--lines]
   [2]

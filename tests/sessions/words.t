@@ -78,7 +78,7 @@ Which word is wrong.
   usage: 4294967296 is no ARG (from 0 to 4294967295): sdv frame INDEX ARG
   usage: 0x40 is no INDEX (from 0 to 63): sdv frame INDEX ARG
   usage: 0 is one word too many: sdv frame INDEX ARG
-  usage: --out stands twice: sdv try SCRIPT CARD IMAGE [SCHEDULE] [--in FILE] [--out FILE] [--each] [--only wrong] [--json] [--lines]
+  usage: --out stands twice: sdv try SCRIPT CARD IMAGE [SCHEDULE] [--in FILE] [--out FILE] [--each] [--card CARD].. [--only wrong] [--json] [--lines]
   usage: --svg stands twice: sdv audit KIND TRACE [--json] [--annotate] [--script SCRIPT] [--registers FILE] [--svg]
   usage: --json and --svg exclude each other: sdv audit KIND TRACE [--json] [--annotate] [--script SCRIPT] [--registers FILE] [--svg]
   usage: --json stands twice: sdv audit KIND TRACE [--json] [--annotate] [--script SCRIPT] [--registers FILE] [--svg]
@@ -91,8 +91,8 @@ Which word is wrong.
   usage: 0x100000000 is no ARG (from 0 to 4294967295): sdv frame INDEX ARG
   usage: --no-fault=x is no option: sdv explain SCRIPT [CERT] [--why] [--dot] [--no-faults]
   usage: --json=x is no option: sdv verify FILE.. [--json] [--no-run] [--save DIR] [--allow KIND]..
-  usage: --in=e stands twice: sdv try SCRIPT CARD IMAGE [SCHEDULE] [--in FILE] [--out FILE] [--each] [--only wrong] [--json] [--lines]
-  usage: e is one word too many: sdv try SCRIPT CARD IMAGE [SCHEDULE] [--in FILE] [--out FILE] [--each] [--only wrong] [--json] [--lines]
+  usage: --in=e stands twice: sdv try SCRIPT CARD IMAGE [SCHEDULE] [--in FILE] [--out FILE] [--each] [--card CARD].. [--only wrong] [--json] [--lines]
+  usage: e is one word too many: sdv try SCRIPT CARD IMAGE [SCHEDULE] [--in FILE] [--out FILE] [--each] [--card CARD].. [--only wrong] [--json] [--lines]
   [2]
   $ up=$EXAMPLES/sd_bring_up.sdv cert=$EXAMPLES/sd_bring_up.cert
   $ sdv emit $up $cert 9x; sdv emit $up $cert for; sdv emit $up $cert a-b; sdv emit -- $up $cert for; sdv batch sd "erase 0 1"; sdv batch sd "read 0"
@@ -137,8 +137,8 @@ The page of a command.
       --out FILE: the file that takes the blocks that the script receives
       --registers FILE: the file that takes the bytes of the registers that come, one after another
   $ sdv try -h | tail -n 5; sdv drive -h | tail -n 3; sdv card -h | tail -n 2
-      --out FILE: the file that takes the blocks that the script receives
       --each: prints how each run with one mishap ends
+      --card CARD: one more card for these runs, over blocks of zeros
       --only wrong: of these runs those alone that come to what is not allowed
       --json: prints an object of JSON a line
       --lines: the trace says where the host changes its data lines

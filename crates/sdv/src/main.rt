@@ -22,9 +22,10 @@ fn main(rt: HostRuntime) -> ExitCode {
     // that stream. A folder takes the number instead: nothing can be written to it.
     let _streams = [fs::open(&rt, "/"), fs::open(&rt, "/"), fs::open(&rt, "/")];
     let words = words_of(&rt);
+    let is_shown = rt.stderr().is_terminal();
     // a trace on the terminal shows by itself how far the run is
-    let is_shown = rt.stderr().is_terminal() && !rt.stdout().is_terminal();
-    let progress = Progress::new(is_shown.then_some(rt.stderr()), &rt);
+    let counts_lines = !rt.stdout().is_terminal();
+    let progress = Progress::new(is_shown.then_some(rt.stderr()), counts_lines, &rt);
     let mut out = Counted {
         inner: rt.stdout(),
         progress: &progress,

@@ -1,5 +1,6 @@
 //! The line on a terminal that says how far a run is.
 use sdv_commands::progress::{Below, Counted, Progress};
+use sdv_search::SweepWatcher;
 use std::cell::Cell;
 use std::io::{self, Write};
 use std::process::Abort;
@@ -51,11 +52,34 @@ fn shows_how_many_lines_went_out(rt: HostRuntime) {
             step,
         };
         let mut shown = Vec::new(rt.alloc());
-        let progress = Progress::new(Some(&mut shown), &clock);
+        let progress = Progress::new(Some(&mut shown), true, &clock);
         write_lines(&rt, &progress);
         drop(progress);
         assert!(rt; shown.as_slice() == wanted, "{step}");
-        let nowhere: Progress<'_, Vec<u8>, Ticking> = Progress::new(None, &clock);
+        let nowhere: Progress<'_, Vec<u8>, Ticking> = Progress::new(None, true, &clock);
         write_lines(&rt, &nowhere);
     }
+}
+
+#[test]
+fn shows_at_how_many_events_runs_were_made(rt: HostRuntime) {
+    let clock = Ticking {
+        now: Cell::new(0),
+        step: 100,
+    };
+    let mut shown = Vec::new(rt.alloc());
+    let progress = Progress::new(Some(&mut shown), false, &clock);
+    let mut out = Counted {
+        inner: Vec::new(rt.alloc()),
+        progress: &progress,
+    };
+    for events in 1..=3 {
+        out.sees(events, 3);
+    }
+    out.write_all(b"line 2\nline 3\n").expect(&rt, "a vector");
+    assert!(rt; out.inner.as_slice() == b"line 2\nline 3\n".as_slice());
+    drop(out);
+    drop(progress);
+    let wanted = b"\r2 of 3 events\x1b[K\r3 of 3 events\x1b[K\r\x1b[K";
+    assert!(rt; shown.as_slice() == wanted.as_slice());
 }

@@ -1,7 +1,11 @@
 -- Sweeps that were not made, and what they left.
-use Rattle.std.proofs.Common.{◌≡◌, refl, sym, ap, subst, inl, inr, Some, ℕ, List, Option, Result, Ok, Err, IsErrAnd, option_map}
+use Rattle.std.proofs.Common.{◌≡◌, ◌∙◌, ◌*◌, ◌⊎◌, IfOk, replicate, refl, sym, ap, subst, inl, inr, Some, ℕ, List, Option, Result, Ok, Err, IfErr, IsErrAnd, option_map}
 use Rattle.std.specs.Borrow.{Bor}
+use Rattle.std.specs.declared.alloc.AllocError.{AllocError}
 use Rattle.clap.specs.Words.{Text}
+use Rattle.sdv_behavior.specs.declared.card_desc.CardDesc.{CardDesc}
+use Rattle.sdv_behavior.specs.Gives.{Describes}
+use Rattle.sdv_behavior.specs.Layout.{image_size}
 use Rattle.sdv_image.specs.declared.fault.SimFault.{SimFault}
 use Rattle.sdv_image.specs.declared.fault.SimFault.TheVariants as cards
 use Rattle.sdv_script.specs.declared.fault.FaultKind.{FaultKind}
@@ -9,15 +13,14 @@ use Rattle.sdv_script.specs.declared.fault.FaultKind.TheVariants as kinds
 use Rattle.sdv_script.specs.declared.fault.ScriptFault.{ScriptFault}
 use Rattle.sdv_refute.specs.declared.simulated.TryFault.{TryFault}
 use Rattle.sdv_refute.specs.declared.simulated.TryFault.TheVariants as tries
-use Rattle.sdv_search.specs.Swept.{NotSwept}
 use Rattle.sdv_program.specs.Fault.{fault_of_card, fault_of_script, fault_of_try}
 use Rattle.sdv_program.specs.declared.fault.Fault.{Fault}
-use Rattle.sdv_program.specs.declared.fault.Fault.TheVariants.{Output, Memory}
-use Rattle.sdv_program.specs.Files.{Files}
-use Rattle.sdv_program.specs.Outcomes.{Ending, Reports, outcome_of}
+use Rattle.sdv_program.specs.declared.fault.Fault.TheVariants.{File, Output, Memory}
+use Rattle.sdv_program.specs.Files.{Files, GivesNoText}
+use Rattle.sdv_program.specs.Outcomes.{Ending, NoText, Reports, outcome_of}
 use Rattle.sdv_program.proofs.StartLaws.{keeps_same}
 use Rattle.sdv_commands.specs.Run.{GivesNoInput, IsOptional}
-use Rattle.sdv_commands.specs.Sweep.{HasNoBytes, IsUnswept, NoImage, NoInput, Over}
+use Rattle.sdv_commands.specs.Sweep.{AreUnswept, HasNoBytes, IsUnsweptBeside, IsZerosFor, NoImage, NoInput, Over}
 
 script_output : (kind : FaultKind) (fault : ScriptFault) → fault_of_script kind fault ≡ Output → ⊥
 script_output kinds.Memory fault is = cc
@@ -43,17 +46,49 @@ try_output tries.Kind is = cc
 try_output (tries.Card fault) is = card_output fault is
 try_output tries.Memory is = cc
 
-module _ (IsReport : Option Fault → Text → Type 0) (script card image : Text) (known : Option (List ℕ)) where
-  unswept_as : (why : TryFault) → NotSwept script card image why → (fault : Fault) → fault ≡ fault_of_try why
-      → Reports IsReport (IsUnswept script card image) (Some fault) known known
-  unswept_as why not Memory same = keeps_same known
-  unswept_as why not Output same = absurd (try_output why (sym same))
-  unswept_as why not _ same = inr ((why, not, same), keeps_same known)
+-- a card beside which no run was made is not told by a fault of the output
+module _ (files : Files) (script : Text) where
+  beside_output : (file : Text) → IsUnsweptBeside files script file Output → ⊥
+  beside_output file (inl none) = none
+  beside_output file (inr (card, given, image, zeros, (why, not, same))) = try_output why (sym same)
 
-  pub unswept : {T : Type 0} (why : TryFault) → NotSwept script card image why → (r : Result T Fault) → IsErrAnd r (λ f. f ≡ fault_of_try why)
-      → Reports IsReport (IsUnswept script card image) (outcome_of r) known known
-  unswept why not (Ok x) is = absurd is
-  unswept why not (Err f) is = unswept_as why not f is
+  -- why there is no text of a further card
+  pub no_card : (file : Bor Text) (fault : Fault) → (fault ≡ File file) ⊎ (fault ≡ Memory) → (fault ≡ File file → GivesNoText files file.now)
+      → IsUnsweptBeside files script file.now fault
+  no_card file fault (inl is) none = inl (subst (λ f. NoText files file.now (Some f)) (sym is) (refl, none is))
+  no_card file fault (inr is) none = inl (subst (λ f. NoText files file.now (Some f)) (sym is) tt)
+
+  module _ (more_cards : List Text) (card image : Text) where
+    output_told : AreUnswept files more_cards script card image Output → ⊥
+    output_told (inl (why, not, same)) = try_output why (sym same)
+    output_told (inr (n, file, named, none)) = beside_output file none
+
+    -- memory was refused
+    pub short : AreUnswept files more_cards script card image Memory
+    short = inl (tries.Memory, inl tt, refl)
+
+    module _ (IsReport : Option Fault → Text → Type 0) (known : Option (List ℕ)) where
+      unswept_as : (fault : Fault) → AreUnswept files more_cards script card image fault
+          → Reports IsReport (AreUnswept files more_cards script card image) (Some fault) known known
+      unswept_as Memory are = keeps_same known
+      unswept_as Output are = absurd (output_told are)
+      unswept_as _ are = inr (are, keeps_same known)
+
+      pub unswept : {T : Type 0} (fault : Fault) → AreUnswept files more_cards script card image fault → (r : Result T Fault)
+          → IsErrAnd r (λ f. f ≡ fault) → Reports IsReport (AreUnswept files more_cards script card image) (outcome_of r) known known
+      unswept fault are (Ok x) is = absurd is
+      unswept fault are (Err f) is = subst (λ f. Reports IsReport (AreUnswept files more_cards script card image) (Some f) known known) (sym is) (unswept_as fault are)
+
+-- zeros that were made for a card
+pub zeros_made : {V : Type 0} (items : V → List ℕ) (r : Result V AllocError) (card : Text) (desc : CardDesc) (n : ℕ) → Describes card desc
+    → n ≡ image_size desc * 512 → IfOk r (λ v. items v ≡ replicate n 0) → IfOk r (λ v. IsZerosFor card (items v))
+zeros_made items (Ok v) card desc n describes same is = inl (desc, describes, is ∙ ap (λ n. replicate n 0) same)
+zeros_made items (Err e) card desc n describes same is = tt
+
+-- a fault that is passed on
+pub passed_on : {T : Type 0} (Is : Fault → Type 0) (fault : Fault) → Is fault → (r : Result T Fault) → IsErrAnd r (λ f. f ≡ fault) → IfErr r Is
+passed_on Is fault holds (Ok x) is = tt
+passed_on Is fault holds (Err f) is = subst Is (sym is) holds
 
 -- files that were not read
 module _ (Gives : List ℕ → Type 0) (Ends : List ℕ → Ending) (known : Option (List ℕ)) (files : Files) where

@@ -28,6 +28,7 @@ use crate::sweeping::sweep_files;
 use crate::verify::verify_files;
 use sdv_lines::LinePort;
 use sdv_program::{Fault, MachineFiles, Request, Store, request_of, usage_line};
+use sdv_search::SweepWatcher;
 use sdv_text::write_text;
 use sdv_wrong_words::{WrongEvent, write_wrong_event};
 use std::alloc::{AllocError, Global};
@@ -42,13 +43,13 @@ use std::rt::Files;
 ///
 /// Nothing is claimed of the files of the machine. So the clauses say that the answer is one to some texts that the named
 /// files may have given, and say nothing of what files took; [`answer`] says it of any files.
-pub fn program_over_lines<R: Files + AllocGlobal, I: Read, L: Write, O: Write, E: Write>(
-    rt: &R,
-    words: &[&str],
-    lines: &mut LinePort<I, L>,
-    out: &mut O,
-    err: &mut E,
-) -> u8
+pub fn program_over_lines<
+    R: Files + AllocGlobal,
+    I: Read,
+    L: Write,
+    O: Write + SweepWatcher,
+    E: Write,
+>(rt: &R, words: &[&str], lines: &mut LinePort<I, L>, out: &mut O, err: &mut E) -> u8
     requires { (streams_of I.remaining L.contents lines.old).fault ≡ None }
     ensures statuses { (result ≡ 0) ⊎ (result ≡ 1) ⊎ (result ≡ 2) ⊎ (result ≡ 3) }
     ensures ended { Ends any_files (streams_of I.remaining L.contents lines.old)
@@ -83,7 +84,7 @@ fn status_after<E: Write>(
 
 /// The same where nobody is at the other side of the lines: a command that speaks in lines reads none there, and what it
 /// writes is dropped.
-pub fn program<R: Files + AllocGlobal, O: Write, E: Write>(
+pub fn program<R: Files + AllocGlobal, O: Write + SweepWatcher, E: Write>(
     rt: &R,
     words: &[&str],
     out: &mut O,
@@ -174,7 +175,7 @@ fn say_line<E: Write>(line: &[u8], err: &mut E) -> u8
 /// is to be said of a run beside its fault is added to the notes. The
 /// clause says what the files gave and took, by their names, and of a file that cannot be used what was
 /// tried and failed.
-pub fn answer<'a, S: Store, I: Read, L: Write, O: Write>(
+pub fn answer<'a, S: Store, I: Read, L: Write, O: Write + SweepWatcher>(
     alloc: Global,
     files: &S,
     words: &'a [&'a str],
@@ -195,7 +196,7 @@ pub fn answer<'a, S: Store, I: Read, L: Write, O: Write>(
 }
 
 /// Answers a request from these files.
-pub fn answer_request<'a, S: Store, I: Read, L: Write, O: Write>(
+pub fn answer_request<'a, S: Store, I: Read, L: Write, O: Write + SweepWatcher>(
     alloc: Global,
     files: &S,
     request: Request<'a>,
@@ -228,7 +229,7 @@ pub fn answer_request<'a, S: Store, I: Read, L: Write, O: Write>(
             serve_card(alloc, files, names, &mut lines.reader, &mut lines.writer)
         }
         Request::Try(names) => try_files(alloc, files, names, out, notes),
-        Request::Sweep(names) => sweep_files(alloc, files, names, out),
+        Request::Sweep(names) => sweep_files(alloc, files, &names, out),
         Request::Decode(words) => decode_files(alloc, files, words, out),
     }
 }

@@ -1,8 +1,10 @@
-//! How far a run is: a line on a terminal that says how many lines went to standard output.
+//! How far a command is: a line on a terminal that says how many lines went to standard output, or of how many events all runs
+//! with one mishap were made.
 
 ghost use Rattle.std.specs.Prelude.{◌≡◌};
 
 use itoa::Buffer;
+use sdv_search::SweepWatcher;
 use sdv_text::write_texts;
 use std::cell::{Cell, RefCell};
 use std::io::{self, Write};
@@ -15,6 +17,8 @@ const PAUSE: u64 = 100;
 #[derive(Drop)]
 pub struct Progress<'a, E, C> {
     terminal: RefCell<Option<E>>,
+    /// Lines are counted. Where standard output is a terminal too, they are seen there.
+    counts_lines: bool,
     clock: &'a C,
     is_shown: Cell<bool>,
     lines: Cell<u64>,
@@ -23,11 +27,12 @@ pub struct Progress<'a, E, C> {
 
 impl<'a, E: Write, C: Clock> Progress<'a, E, C> {
     /// Without a terminal nothing is shown.
-    pub fn new(terminal: Option<E>, clock: &'a C) -> Progress<'a, E, C>
+    pub fn new(terminal: Option<E>, counts_lines: bool, clock: &'a C) -> Progress<'a, E, C>
         ensures { result.clock.now ≡ clock.now }
     {
         Progress {
             terminal: RefCell::new(terminal),
+            counts_lines,
             clock,
             is_shown: Cell::new(false),
             lines: Cell::new(0),
@@ -37,12 +42,30 @@ impl<'a, E: Write, C: Clock> Progress<'a, E, C> {
 
     /// Counts the lines that these bytes end, and shows how many there were, where it is time to.
     fn count(&self, bytes: &[u8]) {
+        if !self.counts_lines {
+            return;
+        }
         let ended = bytes.iter().filter(|byte| **byte == b'\n').count();
         let lines = self.lines.get().saturating_add(ended as u64);
         self.lines.set(lines);
         if self.is_due() {
             let mut digits = Buffer::new();
             self.show(&[b"\r", digits.format(lines).as_bytes(), b" lines\x1b[K"]);
+            self.is_shown.set(true);
+        }
+    }
+
+    /// Shows at how many of all events the runs with one mishap were made, where it is time to.
+    fn show_events(&self, events: usize, all: usize) {
+        if self.is_due() {
+            let (mut made, mut wanted) = (Buffer::new(), Buffer::new());
+            self.show(&[
+                b"\r",
+                made.format(events).as_bytes(),
+                b" of ",
+                wanted.format(all).as_bytes(),
+                b" events\x1b[K",
+            ]);
             self.is_shown.set(true);
         }
     }
@@ -89,6 +112,9 @@ impl<'a, W: Write, E: Write, C: Clock> Write for Counted<'a, W, E, C> {
     ghost contents = { λ w. W.contents w.inner };
 
     fn write(&mut self, buf: &[u8]) -> io::Result<usize> {
+        if !self.progress.counts_lines {
+            self.progress.hide();
+        }
         let count = self.inner.write(buf)?;
         self.progress.count(&buf[..count.min(buf.len())]);
         Ok(count)
@@ -96,6 +122,12 @@ impl<'a, W: Write, E: Write, C: Clock> Write for Counted<'a, W, E, C> {
 
     fn flush(&mut self) -> io::Result<()> {
         self.inner.flush()
+    }
+}
+
+impl<'a, W: Write, E: Write, C: Clock> SweepWatcher for Counted<'a, W, E, C> {
+    fn sees(&self, events: usize, all: usize) {
+        self.progress.show_events(events, all);
     }
 }
 

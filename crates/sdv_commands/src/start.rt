@@ -11,6 +11,7 @@ ghost use Rattle.sdv_program.specs.Fault.{Says, fault_of_words, status_of};
 use crate::program::program_over_lines;
 use sdv_lines::LinePort;
 use sdv_program::Fault;
+use sdv_search::SweepWatcher;
 use std::alloc::{AllocError, Global};
 use std::io::{self, ErrorKind, Read, Write};
 use std::rt::Files;
@@ -18,7 +19,7 @@ use std::rt::Files;
 /// Runs the program on the words of a process, the first of which is its own name, and gives the exit status.
 ///
 /// Words that could not be read are no words of the program; where memory was wanting, that is the fault.
-pub fn start<R: Files + AllocGlobal, I: Read, L: Write, O: Write, E: Write>(
+pub fn start<R: Files + AllocGlobal, I: Read, L: Write, O: Write + SweepWatcher, E: Write>(
     rt: &R,
     words: io::Result<Vec<String>>,
     lines: &mut LinePort<I, L>,
@@ -40,7 +41,7 @@ pub fn start<R: Files + AllocGlobal, I: Read, L: Write, O: Write, E: Write>(
     }
 }
 
-fn start_on<R: Files + AllocGlobal, I: Read, L: Write, O: Write, E: Write>(
+fn start_on<R: Files + AllocGlobal, I: Read, L: Write, O: Write + SweepWatcher, E: Write>(
     rt: &R,
     words: &[String],
     lines: &mut LinePort<I, L>,

@@ -62,7 +62,8 @@ commands =
     ∷ with_value (codes "trace") ∷ flag (codes "plain") ∷ [])
     ∷ command (codes "card") (card ∷ optional (codes "IMAGE") ∷ schedule ∷ flag (codes "describe") ∷ [])
     ∷ command (codes "try") (script ∷ card ∷ image ∷ schedule ∷ with_value (codes "in") ∷ with_value (codes "out")
-    ∷ flag (codes "each") ∷ with_value (codes "only") ∷ flag (codes "json") ∷ flag (codes "lines") ∷ [])
+    ∷ flag (codes "each") ∷ repeated (codes "card") ∷ with_value (codes "only") ∷ flag (codes "json") ∷ flag (codes "lines")
+    ∷ [])
     ∷ []
 
 abbrev pub command_in : List Command → (name : Text) → Option Command

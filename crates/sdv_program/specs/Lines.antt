@@ -2,6 +2,7 @@
 -- `Together.antt` says.
 use Rattle.std.specs.Prelude.{Bool, false, List, [], Option, Some, None, codes, if◌then◌else◌, option_and_then, option_map, unwrap_or}
 use Rattle.std.specs.Str.{bytes_eq}
+use Rattle.clap.specs.Walk.{texts}
 use Rattle.clap.specs.Words.{Row, Text, all_of, first_of}
 use Rattle.sdv_program.specs.declared.line.Line.{Line as CodeLine}
 use Rattle.sdv_program.specs.declared.line.Line.TheVariants.{Verify, Frame, Certify, Check, Run, Batch, Explain, Emit, Audit, Drive, Card, Try}
@@ -40,6 +41,8 @@ pub record CardTexts : Type 0 where
 pub record TryTexts : Type 0 where
   pub script : Text
   pub card : Text
+  -- the further ones
+  pub more_cards : List Text
   pub image : Text
   pub schedule : Option Text
   pub input : Option Text
@@ -154,12 +157,14 @@ by_card_words rows = by_word (codes "CARD") rows (λ card. Some (of_card (record
   describe = is_set (codes "describe") rows;
 })))
 
-abbrev pub by_try_words : List Row → Option Line
-by_try_words rows =
+-- beside further cards
+abbrev pub by_try_words_beside : (more_cards : List Text) → List Row → Option Line
+by_try_words_beside more_cards rows =
     by_word (codes "SCRIPT") rows (λ script. by_word (codes "CARD") rows (λ card. by_word (codes "IMAGE") rows (λ image.
     Some (of_try (record {
       script = script;
       card = card;
+      more_cards = more_cards;
       image = image;
       schedule = first_of (codes "SCHEDULE") rows;
       input = first_of (codes "in") rows;
@@ -169,6 +174,9 @@ by_try_words rows =
       json = is_set (codes "json") rows;
       lines = is_set (codes "lines") rows;
     })))))
+
+abbrev pub by_try_words : List Row → Option Line
+by_try_words rows = by_try_words_beside (words_of (codes "card") rows) rows
 
 -- the line in a command's name and the rows of its words
 abbrev pub other_line_in : (name : Text) → List Row → Option Line
@@ -183,11 +191,13 @@ other_line_in name rows =
     else if bytes_eq name (codes "audit") then by_audit_words rows
     else if bytes_eq name (codes "drive") then by_drive_words rows
     else if bytes_eq name (codes "card") then by_card_words rows
-    else if bytes_eq name (codes "try") then by_try_words rows
     else None
 
 abbrev pub line_in : Text × List Row → Option Line
-line_in used = if bytes_eq used.0 (codes "verify") then Some (by_verify_words used.1) else other_line_in used.0 used.1
+line_in used =
+    if bytes_eq used.0 (codes "verify") then Some (by_verify_words used.1)
+    else if bytes_eq used.0 (codes "try") then by_try_words used.1
+    else other_line_in used.0 used.1
 
 -- THE CODE'S LINE, with references to the words
 
@@ -223,6 +233,7 @@ abbrev pub try_line_of : TryLine → TryTexts
 try_line_of words = record {
   script = words.script.now;
   card = words.card.now;
+  more_cards = texts words.more_cards.items;
   image = words.image.now;
   schedule = option_map (λ file. file.now) words.schedule;
   input = option_map (λ file. file.now) words.input;

@@ -91,6 +91,8 @@ pub record TryNames : Type 0 where
 pub record SweepNames : Type 0 where
   pub script : Text
   pub card : Text
+  -- the further ones, over blocks of zeros
+  pub more_cards : List Text
   pub image : Text
   pub input : Option Text
   pub only_wrong : Bool
@@ -193,6 +195,7 @@ abbrev pub sweep_names_of : SweepFiles → SweepNames
 sweep_names_of files = record {
   script = files.script.now;
   card = files.card.now;
+  more_cards = texts files.more_cards.items;
   image = files.image.now;
   input = option_map (λ file. file.now) files.input;
   only_wrong = files.only_wrong;

@@ -1,5 +1,5 @@
 -- Which words of a command go TOGETHER, and what a line then asks for.
-use Rattle.std.specs.Prelude.{Bool, true, false, ◌&&◌, Option, Some, None, codes, if◌then◌else◌, is_some, option_map}
+use Rattle.std.specs.Prelude.{Bool, true, false, ◌&&◌, ◌==◌, not, length, Option, Some, None, codes, if◌then◌else◌, is_some, option_map}
 use Rattle.std.specs.Str.{bytes_eq}
 use Rattle.clap.specs.Words.{Text}
 use Rattle.sdv_program.specs.Lines.{Line, AuditTexts, CardTexts, ExplainTexts, TryTexts, always, of_audit, of_card, of_explain, of_try}
@@ -58,6 +58,7 @@ abbrev pub swept : TryTexts → (only_wrong : Bool) → Request
 swept words only_wrong = sweep (record {
   script = words.script;
   card = words.card;
+  more_cards = words.more_cards;
   image = words.image;
   input = words.input;
   only_wrong = only_wrong;
@@ -72,10 +73,11 @@ sweep_request words =
     else if is_some words.output then None
     else option_map (swept words) (only_wrong_by words.only)
 
--- a single run has a trace, and no table
+-- a single run has one card and a trace, and no table
 abbrev pub attempt_request : TryTexts → Option Request
 attempt_request words =
     if words.json then None
+    else if not (length words.more_cards == 0) then None
     else unless (is_some words.only) (attempt (record {
       script = words.script;
       card = words.card;

@@ -4,7 +4,7 @@ ghost use Rattle.std.specs.Prelude.{option_and_then, option_map};
 ghost use Rattle.clap.specs.Words.{fault_of, first_of, found_of, kind_of, rows_of, subcommand_rows_of, takes};
 ghost use Rattle.clap.specs.Walk.{texts};
 ghost use Rattle.sdv_program.specs.CommandLine.{command_line, meaning_of};
-ghost use Rattle.sdv_program.specs.Lines.{by_audit_words, by_card_words, by_explain_words, by_try_words, is_set, line_in, seen_line};
+ghost use Rattle.sdv_program.specs.Lines.{by_audit_words, by_card_words, by_explain_words, by_try_words, by_try_words_beside, is_set, line_in, seen_line};
 ghost use Rattle.sdv_program.specs.Lines.{by_drive_words, by_emit_words, by_run_words, by_script, by_two_words, by_verify_words, other_line_in, words_of};
 ghost use Rattle.sdv_program.specs.Requests.{batch, certify, check, frame};
 
@@ -127,10 +127,12 @@ pub struct RunFiles<'a> {
 }
 
 /// The words of a run without a certificate, or of all runs with one mishap.
-#[derive(Clone, Copy)]
+#[derive(Drop)]
 pub struct TryLine<'a> {
     pub script: &'a str,
     pub card: &'a str,
+    /// The further cards.
+    pub more_cards: Vec<&'a str>,
     pub image: &'a str,
     pub schedule: Option<&'a str>,
     pub input: Option<&'a str>,
@@ -233,11 +235,12 @@ fn line_in<'a>(alloc: Global, matches: &ArgMatches<'a>) -> Result<Option<Line<'a
     };
     match name {
         "verify" => verify_in(alloc, matches),
+        "try" => try_in(alloc, matches),
         _ => Ok(other_line_in(name, matches)),
     }
 }
 
-/// The line of a command that takes each word once.
+/// The line of a command that takes each word once at most.
 fn other_line_in<'a>(name: &str, matches: &ArgMatches<'a>) -> Option<Line<'a>>
     ensures { option_map seen_line result ≡ other_line_in name.now (rows_of (found_of matches.now)) }
 {
@@ -252,7 +255,6 @@ fn other_line_in<'a>(name: &str, matches: &ArgMatches<'a>) -> Option<Line<'a>>
         ("audit", matches) => audit_in(matches),
         ("drive", matches) => drive_in(matches),
         ("card", matches) => card_in(matches),
-        ("try", matches) => try_in(matches),
         _ => None,
     }
 }
@@ -428,8 +430,16 @@ fn card_in<'a>(matches: &ArgMatches<'a>) -> Option<Line<'a>>
     }))
 }
 
-fn try_in<'a>(matches: &ArgMatches<'a>) -> Option<Line<'a>>
-    ensures { option_map seen_line result ≡ by_try_words (rows_of (found_of matches.now)) }
+fn try_in<'a>(alloc: Global, matches: &ArgMatches<'a>) -> Result<Option<Line<'a>>, AllocError>
+    ensures { IfOk result (λ line. option_map seen_line line ≡ by_try_words (rows_of (found_of matches.now))) }
+{
+    let more_cards = words_in(alloc, matches, "card")?;
+    Ok(try_beside(matches, more_cards))
+}
+
+/// The line of a try that names these further cards.
+fn try_beside<'a>(matches: &ArgMatches<'a>, more_cards: Vec<&'a str>) -> Option<Line<'a>>
+    ensures { option_map seen_line result ≡ by_try_words_beside (texts more_cards.entry.items) (rows_of (found_of matches.now)) }
 {
     let script = word_in(matches, "SCRIPT")?;
     let card = word_in(matches, "CARD")?;
@@ -437,6 +447,7 @@ fn try_in<'a>(matches: &ArgMatches<'a>) -> Option<Line<'a>>
     Some(Line::Try(TryLine {
         script,
         card,
+        more_cards,
         image,
         schedule: word_in(matches, "SCHEDULE"),
         input: word_in(matches, "in"),

@@ -167,7 +167,7 @@ fn clash(command: &str, words: &[&str]) -> &'static str {
         "try" if has(b"each") && has(b"only") =>
             "--only takes the word wrong, and --each no SCHEDULE, --out or --lines",
         "try" if has(b"each") => "--each goes with neither SCHEDULE, --out nor --lines",
-        "try" => "--only and --json need --each",
+        "try" => "--card, --only and --json need --each",
         "emit" => "NAME is a keyword or a reserved name of C",
         "batch" => "REQUESTS are not read FIRST COUNT and write FIRST COUNT",
         _ => "a word does not fit",

@@ -140,11 +140,13 @@ pub struct TryFiles<'a> {
 }
 
 /// The names of the files of all runs with one mishap.
-#[derive(Clone, Copy)]
+#[derive(Drop)]
 pub struct SweepFiles<'a> {
     pub script: &'a str,
     /// The description of the card.
     pub card: &'a str,
+    /// The descriptions of further cards, each over blocks of zeros.
+    pub more_cards: Vec<&'a str>,
     /// The image of the card before each run, or `new:` and how many blocks of zeros it has.
     pub image: &'a str,
     /// The blocks that the script gives. Without it there are none.
@@ -291,6 +293,7 @@ fn sweep_request<'a>(words: TryLine<'a>) -> Option<Request<'a>>
     Some(Request::Sweep(SweepFiles {
         script: words.script,
         card: words.card,
+        more_cards: words.more_cards,
         image: words.image,
         input: words.input,
         only_wrong,
@@ -309,11 +312,11 @@ fn only_wrong_in(word: Option<&str>) -> Option<bool>
     }
 }
 
-/// A single run has a trace, and no table.
+/// A single run has one card and a trace, and no table.
 fn attempt_request<'a>(words: TryLine<'a>) -> Option<Request<'a>>
     ensures { option_map seen result ≡ attempt_request (try_line_of words.entry) }
 {
-    if words.json || words.only.is_some() {
+    if words.json || !words.more_cards.is_empty() || words.only.is_some() {
         return None;
     }
     Some(Request::Try(TryFiles {

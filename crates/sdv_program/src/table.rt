@@ -222,6 +222,11 @@ pub static COMMANDS: [CommandEntry; 12] = [
             IN,
             OUT,
             Word::Flag("each", "prints how each run with one mishap ends"),
+            Word::Each(
+                "card",
+                "CARD",
+                "one more card for these runs, over blocks of zeros",
+            ),
             Word::WithValue(
                 "only",
                 "wrong",

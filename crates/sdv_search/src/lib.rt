@@ -37,5 +37,5 @@ pub use beyond::{Beyond, run_on};
 pub use breaking::path_lines;
 pub use brief::{run_lines, shown_run};
 pub use refuting::{Found, Refutation, refute};
-pub use sweeping::{Cell, Row, RunEnd, SweepGiven, SweepTable, sweep};
+pub use sweeping::{Cell, Row, RunEnd, SweepGiven, SweepTable, SweepWatcher, sweep};
 pub use table::{TableForm, fails, table_text};

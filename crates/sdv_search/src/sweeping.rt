@@ -106,6 +106,17 @@ impl Onlooker<Controller<Sim<MemImage>>> for Events {
     }
 }
 
+/// Somebody who is told how far a sweep is. Nothing is claimed of what they do then.
+pub trait SweepWatcher {
+    /// The runs at so many of all events were made.
+    fn sees(&self, events: usize, all: usize);
+}
+
+/// What is printed to memory, beside which nothing is shown.
+impl SweepWatcher for Vec<u8> {
+    fn sees(&self, _events: usize, _all: usize) {}
+}
+
 /// What the runs of a sweep are given.
 #[derive(Clone, Copy)]
 pub struct SweepGiven<'a> {
@@ -217,7 +228,13 @@ impl Common<'_, '_, '_> {
     }
 
     /// The rows of so many events, which were all seen.
-    fn rows(&self, alloc: Global, seen: &[Event], count: usize) -> Result<Vec<Row>, AllocError>
+    fn rows<W: SweepWatcher>(
+        &self,
+        alloc: Global,
+        seen: &[Event],
+        count: usize,
+        watcher: &W,
+    ) -> Result<Vec<Row>, AllocError>
         ensures { IfOk result (λ rows.
             AreRows self.now.graph.now self.now.desc self.now.image.now self.now.input.now count rows.items) }
     {
@@ -227,6 +244,7 @@ impl Common<'_, '_, '_> {
                 return Err(AllocError);
             };
             rows.push(self.row(alloc, number, *event)?)?;
+            watcher.sees(rows.len(), count);
         }
         Ok(rows)
     }
@@ -264,7 +282,11 @@ fn events_in(trace: &[u8], end: &RunEnd) -> usize
 /// The first of these: [`TryFault::Script`], [`TryFault::Card`] for the description, [`TryFault::Card`] where the image
 /// is no whole number of blocks, [`TryFault::Kind`], [`TryFault::Card`] where the card has not as many blocks. Also
 /// [`TryFault::Memory`].
-pub fn sweep(alloc: Global, given: &SweepGiven<'_>) -> Result<SweepTable, TryFault>
+pub fn sweep<W: SweepWatcher>(
+    alloc: Global,
+    given: &SweepGiven<'_>,
+    watcher: &W,
+) -> Result<SweepTable, TryFault>
     ensures swept { IfOk result
         (IsSweep given.now.script.now given.now.card.now given.now.image.now given.now.input.now) }
     ensures refused { IfErr result (NotSwept given.now.script.now given.now.card.now given.now.image.now) }
@@ -293,6 +315,6 @@ pub fn sweep(alloc: Global, given: &SweepGiven<'_>) -> Result<SweepTable, TryFau
         return Err(TryFault::Memory);
     }
     let events = events_in(&trace, &plain);
-    let rows = common.rows(alloc, &seen.events, events)?;
+    let rows = common.rows(alloc, &seen.events, events, watcher)?;
     Ok(SweepTable { plain, rows })
 }

@@ -23,14 +23,16 @@ const NAME_WIDTH: usize = 12;
 
 /// How a table is told.
 #[derive(Clone, Copy)]
-pub struct TableForm {
+pub struct TableForm<'a> {
     /// As objects of JSON.
     pub json: bool,
     /// The runs alone that come to what is not allowed at the card.
     pub only_wrong: bool,
+    /// The file of the card, where there are tables of several.
+    pub card: Option<&'a str>,
 }
 
-impl TableForm {
+impl TableForm<'_> {
     /// Runs that end so are told.
     fn tells(self, end: &str) -> bool {
         !self.only_wrong || end == "wrong"
@@ -208,13 +210,21 @@ fn count(table: &SweepTable, word: &str) -> u64 {
 }
 
 /// The table of all runs with one mishap: a line or an object for each event that a run without one made, in which a run that is
-/// told has the name of its mishap behind what it came to; and at last how that run ended, and how many of the others.
+/// told has the name of its mishap behind what it came to; and at last how that run ended, and how many of the others. Where
+/// there are tables of several cards, a line or a member names the card.
 ///
 /// # Errors
 ///
 /// Memory was refused.
-pub fn table_text(alloc: Global, table: &SweepTable, form: TableForm) -> Result<Text, AllocError> {
+pub fn table_text(
+    alloc: Global,
+    table: &SweepTable,
+    form: TableForm<'_>,
+) -> Result<Text, AllocError> {
     let mut text = Vec::new(alloc);
+    if let (Some(card), false) = (form.card, form.json) {
+        put_all(&mut text, &["beside ", card, "\n"])?;
+    }
     for row in &table.rows {
         if form.only_wrong && !any_run_wrong(&row.cells) {
             continue;
@@ -226,7 +236,7 @@ pub fn table_text(alloc: Global, table: &SweepTable, form: TableForm) -> Result<
         }
     }
     if form.json {
-        put_object(alloc, &mut text, last_object(alloc, table)?)?;
+        put_object(alloc, &mut text, last_object(alloc, table, form)?)?;
     } else {
         put_last(&mut text, table)?;
     }
@@ -244,7 +254,12 @@ fn put_padded(text: &mut Text, cell: &[u8], width: usize) -> Result<(), AllocErr
 }
 
 /// Adds the line of an event.
-fn put_row(alloc: Global, text: &mut Text, row: &Row, form: TableForm) -> Result<(), AllocError> {
+fn put_row(
+    alloc: Global,
+    text: &mut Text,
+    row: &Row,
+    form: TableForm<'_>,
+) -> Result<(), AllocError> {
     let mut line = Vec::new(alloc);
     put_numbered(&mut line, "line ", u64::from(row.line), "")?;
     put_padded(text, &line, LINE_WIDTH)?;
@@ -291,7 +306,7 @@ fn put_object(alloc: Global, text: &mut Text, object: Value) -> Result<(), Alloc
 }
 
 /// The object of an event: a list of names for each end that is told.
-fn row_object(alloc: Global, row: &Row, form: TableForm) -> Result<Value, AllocError> {
+fn row_object(alloc: Global, row: &Row, form: TableForm<'_>) -> Result<Value, AllocError> {
     let name = name_of(&row.next);
     let (name, line, event) = (
         str::from_utf8(&name).unwrap_or(""),
@@ -299,6 +314,7 @@ fn row_object(alloc: Global, row: &Row, form: TableForm) -> Result<Value, AllocE
         row.event as u64,
     );
     let mut object = json!(in alloc; { "name": name, "line": line, "event": event })?;
+    add_card(alloc, &mut object, form)?;
     for word in ENDS {
         if form.tells(word) {
             add(alloc, &mut object, word, names(alloc, row, word)?)?;
@@ -318,13 +334,26 @@ fn names(alloc: Global, row: &Row, word: &str) -> Result<Value, AllocError> {
 }
 
 /// The last object: how the run without a mishap ended, and how many of the others.
-fn last_object(alloc: Global, table: &SweepTable) -> Result<Value, AllocError> {
+fn last_object(
+    alloc: Global,
+    table: &SweepTable,
+    form: TableForm<'_>,
+) -> Result<Value, AllocError> {
     let plain = end_word(&table.plain);
     let mut object = json!(in alloc; { "plain": plain })?;
+    add_card(alloc, &mut object, form)?;
     for word in ENDS {
         add(alloc, &mut object, word, Value::from(count(table, word)))?;
     }
     Ok(object)
+}
+
+/// Adds the file of the card, where there are tables of several.
+fn add_card(alloc: Global, object: &mut Value, form: TableForm<'_>) -> Result<(), AllocError> {
+    match form.card {
+        Some(card) => add(alloc, object, "card", json!(in alloc; card)?),
+        None => Ok(()),
+    }
 }
 
 /// Adds a member to an object.

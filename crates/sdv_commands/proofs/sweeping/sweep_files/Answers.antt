@@ -14,19 +14,19 @@ use Rattle.sdv_commands.proofs.sweeping.sweep_files.Goals as goal
 pub returns-in_err-script : goal.returns-in_err-script
 returns-in_err-script g c =
     let files : Files = g.S.Store.known c.args.files.now in
-    let names : SweepNames = sweep_names_of c.args.names in
-    no_text files c.args.names.script (λ (script : Text). OverText files names.card (ImageEnds files names script))
+    let names : SweepNames = sweep_names_of c.args.names.now in
+    no_text files c.args.names.now.script (λ (script : Text). OverText files names.card (ImageEnds files names script))
     (g.O.Write.contents c.args.out.now)
     c.in_err-script.field-0.0 c.in_err-script.ensures.refused c.in_err-script.ensures.no_text c.from_residual.result c.from_residual.ensures.1
 
 pub returns-in_err-card : goal.returns-in_err-card
 returns-in_err-card g c =
     let files : Files = g.S.Store.known c.args.files.now in
-    let names : SweepNames = sweep_names_of c.args.names in
+    let names : SweepNames = sweep_names_of c.args.names.now in
     inr (
       string_bytes c.in_ok-script.script,
       c.in_ok-script.ensures.given,
-      no_text files c.args.names.card (ImageEnds files names (string_bytes c.in_ok-script.script)) (g.O.Write.contents c.args.out.now)
+      no_text files c.args.names.now.card (ImageEnds files names (string_bytes c.in_ok-script.script)) (g.O.Write.contents c.args.out.now)
           c.in_err-card.field-0.0 c.in_err-card.ensures.refused c.in_err-card.ensures.no_text
           c.from_residual-in_err-card.result c.from_residual-in_err-card.ensures.1,
     )
@@ -34,7 +34,7 @@ returns-in_err-card g c =
 pub returns-in_err-image : goal.returns-in_err-image
 returns-in_err-image g c =
     let files : Files = g.S.Store.known c.args.files.now in
-    let names : SweepNames = sweep_names_of c.args.names in
+    let names : SweepNames = sweep_names_of c.args.names.now in
     let script : Text = string_bytes c.in_ok-script.script in
     let card : Text = string_bytes c.in_ok-card.card in
     inr (
@@ -43,7 +43,7 @@ returns-in_err-image g c =
       inr (
         card,
         c.in_ok-card.ensures.given,
-        no_image_bytes (GivesBytes files names.image) (InputEnds files names script card) (g.O.Write.contents c.args.out.now) files c.args.names.image
+        no_image_bytes (GivesBytes files names.image) (InputEnds files names script card) (g.O.Write.contents c.args.out.now) files c.args.names.now.image
             c.in_err-image.field-0.0 c.in_err-image.ensures.refused c.from_residual-in_err-image.result c.from_residual-in_err-image.ensures.1,
       ),
     )
@@ -51,7 +51,7 @@ returns-in_err-image g c =
 pub returns-in_err-blocks : goal.returns-in_err-blocks
 returns-in_err-blocks g c =
     let files : Files = g.S.Store.known c.args.files.now in
-    let names : SweepNames = sweep_names_of c.args.names in
+    let names : SweepNames = sweep_names_of c.args.names.now in
     let script : Text = string_bytes c.in_ok-script.script in
     let card : Text = string_bytes c.in_ok-card.card in
     let image : Text = c.in_ok-image.image.items in
@@ -64,7 +64,7 @@ returns-in_err-blocks g c =
         inr (
           image,
           c.in_ok-image.ensures.given,
-          no_input (GivesInput files names.input) (SweptEnds script card image) (g.O.Write.contents c.args.out.now) files c.args.names.input
+          no_input (GivesInput files names.input) (SweptEnds files names script card image) (g.O.Write.contents c.args.out.now) files c.args.names.now.input
               c.in_err-blocks.field-0.0 c.in_err-blocks.ensures.refused c.from_residual-in_err-blocks.result c.from_residual-in_err-blocks.ensures.1,
         ),
       ),

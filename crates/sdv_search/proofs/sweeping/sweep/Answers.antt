@@ -4,7 +4,7 @@ use Rattle.sdv_search.proofs.SweptLaws.{not_swept, passed}
 use Rattle.sdv_search.proofs.sweeping.sweep.Goals as goal
 
 pub returns-clause-swept : goal.returns-clause-swept
-returns-clause-swept c =
+returns-clause-swept g c =
     let given = c.args.given.now in
     let trace = c.end.new.trace.items in
     let plain = c.in_ok-plain.plain in
@@ -21,7 +21,7 @@ returns-clause-swept c =
     }
 
 pub returns-in_err-plain-clause-refused : goal.returns-in_err-plain-clause-refused
-returns-in_err-plain-clause-refused c =
+returns-in_err-plain-clause-refused g c =
     let given = c.args.given.now in
     passed given.script.now given.card.now given.image.now c.in_err-plain.field-0.0 c.from_residual.result c.from_residual.ensures.1
     (not_swept c.in-Ok.graph c.in-Ok-parse.desc given.script.now given.card.now given.image.now c.in-Ok.ensures.graph c.in-Ok-parse.ensures
