@@ -45,10 +45,10 @@ Relative card addresses.
   $ for rca in 1 65535; do printf "card sd\nversion 2\nunit block\ncsize 0\nrca $rca\n" > card; sdv try $up card new:1024 | grep -e CMD3 -e CMD7; sdv try --each $up card new:1024 | tail -n 1; done
   CMD3 00000000 R6 00010500
   CMD7 00010000 R1 00000700
-  with one: 0 wrong, 0 stopped, 43 fault, 11 done
+  with one: 0 wrong, 0 stopped, 45 fault, 12 done
   CMD3 00000000 R6 ffff0500
   CMD7 ffff0000 R1 00000700
-  with one: 0 wrong, 0 stopped, 43 fault, 11 done
+  with one: 0 wrong, 0 stopped, 45 fault, 12 done
   $ for rca in 0 65536 -1 99999999999999999999; do printf "card sd\nversion 2\nunit block\ncsize 0\nrca $rca\n" > card; sdv try $up card new:1024; sdv try --each $up card new:1024; done
   card fault Description
   card fault Description

@@ -77,6 +77,86 @@ nothing is told of an event, the mishap changes nothing there.
   event 4, 12 lines: CMD41 40ff8000 R3 00ff8000, CMD55 00000000 R1 00000120
   write fails, error shown later
 
+Another block length after CMD0, another relative address at CMD3, and a switch error that a busy card keeps at CMD13.
+
+  $ printf 'card sd\nversion 2\nunit byte\ncsize 3\ncmult 0\nrbl 9\nrca 1\n' > byte.card
+  $ cat > again.sdv << 'END'
+  > card sd
+  > send 0 { else { } }
+  > send 8 { echo { } else { fault old } }
+  > loop 10 { send 55 { app { } else { fault lost } } send 41 0x40ff8000 { ocr.ready { break } answer { } else { fault cond } } } else { fault slow }
+  > send 2 { answer { } else { fault cid } }
+  > send 3 { clean { } else { } }
+  > send 3 { clean { } else { } }
+  > send 7 { clean { } else { } }
+  > send 17 at byte 0 { clean { } else { } }
+  > fault end
+  > END
+  $ for mishap in 'CMD0: other block length' '2nd CMD3: answer lost with other address' '2nd CMD3: refused with other address' 'CMD3: refused with other address'; do
+  >   echo "$mishap" > names; echo "$mishap"; sdv try again.sdv byte.card new:16 names 2>&1 | sed -n '6,$p'
+  > done
+  CMD0: other block length
+  CMD3 00000000 R6 00010500
+  CMD3 00000000 R6 00010700
+  CMD7 00010000 R1 00000700
+  wrong CMD17 00000000
+  line 9: CMD17 comes to a card in tran state whose block length is not 512 bytes
+  2nd CMD3: answer lost with other address
+  CMD3 00000000 R6 00010500
+  CMD3 00000000 timeout
+  CMD7 00010000 timeout
+  wrong CMD17 00000000
+  line 9: CMD17 comes to a card in stby state, where it is not legal
+  2nd CMD3: refused with other address
+  CMD3 00000000 R6 00010500
+  CMD3 00000000 R6 00022700
+  CMD7 00020000 timeout
+  wrong CMD17 00000000
+  line 9: CMD17 comes to a card in stby state, where it is not legal
+  CMD3: refused with other address
+  CMD3 00000000 R6 00022500
+  CMD3 00000000 R6 00010500
+  CMD7 00010000 R1 00000700
+  CMD17 00000000 R1 00000900
+  fault end
+  $ for mishap in 'answer lost with other address' 'refused with other address'; do
+  >   for rca in 1 2; do printf "card sd\nversion 2\nunit byte\ncsize 3\ncmult 0\nrbl 9\nrca $rca\n" > byte.card; echo "line 6: $mishap" > names; sdv try again.sdv byte.card new:16 names | sed -n '6,7p'; done
+  > done
+  CMD3 00000000 timeout
+  CMD3 00000000 R6 00010700
+  CMD3 00000000 timeout
+  CMD3 00000000 R6 00020700
+  CMD3 00000000 R6 00022500
+  CMD3 00000000 R6 00010500
+  CMD3 00000000 R6 00012500
+  CMD3 00000000 R6 00020500
+  $ printf 'card sd\nversion 2\nunit byte\ncsize 3\ncmult 0\nrbl 10\nrca 1\n' > byte.card; echo 'CMD0: other block length' > names; sdv try again.sdv byte.card new:32 | tail -n 1; sdv try again.sdv byte.card new:32 names | tail -n 2
+  line 9: CMD17 comes to a card in tran state whose block length is not 512 bytes
+  wrong CMD17 00000000
+  CMD17 00000000 R1 00000900
+  fault end
+  $ cat > switch.sdv << 'END'
+  > card emmc
+  > send 0 { else { } }
+  > loop 10 { send 1 { ocr.ready { break } answer { } else { fault cond } } } else { fault busy }
+  > send 2 { answer { } else { fault cid } }
+  > send 3 { clean { } else { fault rca } }
+  > send 7 { clean { } else { fault select } }
+  > send 6 bus.lines 8 { clean { } else { fault switch } }
+  > send 13 { answer { } else { fault status } }
+  > send 13 { answer { } else { fault status } }
+  > done
+  > END
+  $ for mishap in 'not ready' 'switch error kept'; do
+  >   printf "CMD6: switch fails\nCMD13: $mishap\n" > names; echo "$mishap"; sdv try switch.sdv $EXAMPLES/emmc_byte.card new:16 names | grep CMD13
+  > done
+  not ready
+  CMD13 00010000 R1 00000e80
+  CMD13 00010000 R1 00000900
+  switch error kept
+  CMD13 00010000 R1 00000e00
+  CMD13 00010000 R1 00000980
+
 A write that stores nothing, though the host sees it end well: the next status shows the error. A phase that is cut while time
 passes leaves the card where programming ends by itself.
 

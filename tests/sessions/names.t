@@ -221,7 +221,7 @@ Files with a letter are read by name, and others as digits.
   1 fault unready
   $ printf '# n\xc3\xa4chste\nCMD8: lost' > names; sdv try $script $card $image names | tail -n 1; printf 'CMD8: lost\377' > names; sdv try $script $card $image names
   fault unready
-  schedule fault: no mishap (command lost, answer lost, not ready, error shown, refused, phase cut, switch fails, CRC status lost, no APP_CMD, lost while busy, error while busy, write fails, time passes, OUT_OF_RANGE, ERASE_SEQ_ERROR, ILLEGAL_COMMAND) in line 1
+  schedule fault: no mishap (command lost, answer lost, not ready, error shown, refused, phase cut, switch fails, CRC status lost, no APP_CMD, lost while busy, error while busy, write fails, time passes, OUT_OF_RANGE, ERASE_SEQ_ERROR, ILLEGAL_COMMAND, other block length, answer lost with other address, refused with other address, switch error kept) in line 1
   [1]
 
 Lines that name no event.
@@ -254,7 +254,7 @@ Lines that name no mishap.
   schedule fault: no mishap in line 1
   schedule fault: no mishap in line 1
   $ printf '\r\nCMD55: is lost\r\n' > names; sdv try $script $card $image names
-  schedule fault: no mishap (command lost, answer lost, not ready, error shown, refused, phase cut, switch fails, CRC status lost, no APP_CMD, lost while busy, error while busy, write fails, time passes, OUT_OF_RANGE, ERASE_SEQ_ERROR, ILLEGAL_COMMAND) in line 2
+  schedule fault: no mishap (command lost, answer lost, not ready, error shown, refused, phase cut, switch fails, CRC status lost, no APP_CMD, lost while busy, error while busy, write fails, time passes, OUT_OF_RANGE, ERASE_SEQ_ERROR, ILLEGAL_COMMAND, other block length, answer lost with other address, refused with other address, switch error kept) in line 2
   [1]
 
 At most 64 lines name a mishap.
@@ -270,13 +270,13 @@ At most 64 lines name a mishap.
 A wrong line is told once the file is read, before anything is said of the others but that they can be read. Nothing is written.
 
   $ printf 'CMD55: none' > names; printf 'card\n' > none.sdv; head -c 511 /dev/zero > odd; sdv try none.sdv none.sdv odd names --in nofile
-  schedule fault: no mishap (command lost, answer lost, not ready, error shown, refused, phase cut, switch fails, CRC status lost, no APP_CMD, lost while busy, error while busy, write fails, time passes, OUT_OF_RANGE, ERASE_SEQ_ERROR, ILLEGAL_COMMAND) in line 1
+  schedule fault: no mishap (command lost, answer lost, not ready, error shown, refused, phase cut, switch fails, CRC status lost, no APP_CMD, lost while busy, error while busy, write fails, time passes, OUT_OF_RANGE, ERASE_SEQ_ERROR, ILLEGAL_COMMAND, other block length, answer lost with other address, refused with other address, switch error kept) in line 1
   [1]
   $ sdv try $script nofile odd names
   cannot use nofile
   [2]
   $ printf x > out; sdv try $script $card $image names --out out || wc -c < out
-  schedule fault: no mishap (command lost, answer lost, not ready, error shown, refused, phase cut, switch fails, CRC status lost, no APP_CMD, lost while busy, error while busy, write fails, time passes, OUT_OF_RANGE, ERASE_SEQ_ERROR, ILLEGAL_COMMAND) in line 1
+  schedule fault: no mishap (command lost, answer lost, not ready, error shown, refused, phase cut, switch fails, CRC status lost, no APP_CMD, lost while busy, error while busy, write fails, time passes, OUT_OF_RANGE, ERASE_SEQ_ERROR, ILLEGAL_COMMAND, other block length, answer lost with other address, refused with other address, switch error kept) in line 1
   1
   $ printf 'CMD8: lost' > names; sdv try none.sdv none.sdv odd names
   card fault ImageLength

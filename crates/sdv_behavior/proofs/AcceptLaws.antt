@@ -152,7 +152,7 @@ does_18 : (d : CardDesc) (deed : Deed) (n m argument : ℕ) (choice : Choice) (t
 does_18 d Loses n m argument choice t = refl
 does_18 d TakesUnheard n m argument choice t = ap (λ (a : CardState). record { after = answered d (Cmd18 n) false a; reply = None; erases = false }) (taken_18 d n m argument choice t)
 does_18 d Takes n m argument choice t =
-    ap (λ (a : CardState). record { after = answered d (Cmd18 n) true a; reply = reply_of d (Cmd18 n) t choice.app choice.error choice.ready; erases = false }) (taken_18 d n m argument choice t)
+    ap (λ (a : CardState). record { after = answered d (Cmd18 n) true a; reply = reply_of d (Cmd18 n) t choice.app choice.error choice; erases = false }) (taken_18 d n m argument choice t)
 does_18 d StaysUnheard n m argument choice t = refl
 does_18 d Stays n m argument choice t = refl
 
@@ -161,7 +161,7 @@ done_18 : (d : CardDesc) (behavior : Behavior) (n m : ℕ) (app matched : Bool) 
     ≡ done_as d behavior (taken_as_of (ReadMultipleBlock m) app matched) argument t
 done_18 d behavior n m true matched argument t = refl
 done_18 d behavior n m false matched argument t =
-    does_18 d (deed_at behavior.deed CardStatus) n m argument (choice_of d behavior (Cmd18 n) t.checked) t
+    does_18 d (deed_at behavior.deed CardStatus) n m argument (choice_of d behavior (Cmd18 n) t) t
 
 state_25 : (k : Kind) (n m : ℕ) (ready : Bool) (state : State) → state_next k (Cmd25 n) ready state ≡ state_next k (Cmd25 m) ready state
 state_25 Sd n m ready state = refl
@@ -176,7 +176,7 @@ does_25 : (d : CardDesc) (deed : Deed) (n m argument : ℕ) (choice : Choice) (t
 does_25 d Loses n m argument choice t = refl
 does_25 d TakesUnheard n m argument choice t = ap (λ (a : CardState). record { after = answered d (Cmd25 n) false a; reply = None; erases = false }) (taken_25 d n m argument choice t)
 does_25 d Takes n m argument choice t =
-    ap (λ (a : CardState). record { after = answered d (Cmd25 n) true a; reply = reply_of d (Cmd25 n) t choice.app choice.error choice.ready; erases = false }) (taken_25 d n m argument choice t)
+    ap (λ (a : CardState). record { after = answered d (Cmd25 n) true a; reply = reply_of d (Cmd25 n) t choice.app choice.error choice; erases = false }) (taken_25 d n m argument choice t)
 does_25 d StaysUnheard n m argument choice t = refl
 does_25 d Stays n m argument choice t = refl
 
@@ -185,7 +185,7 @@ done_25 : (d : CardDesc) (behavior : Behavior) (n m : ℕ) (app matched : Bool) 
     ≡ done_as d behavior (taken_as_of (WriteMultipleBlock m) app matched) argument t
 done_25 d behavior n m true matched argument t = refl
 done_25 d behavior n m false matched argument t =
-    does_25 d (deed_at behavior.deed CardStatus) n m argument (choice_of d behavior (Cmd25 n) t.checked) t
+    does_25 d (deed_at behavior.deed CardStatus) n m argument (choice_of d behavior (Cmd25 n) t) t
 
 pub hears_same : (d : CardDesc) (behavior : Behavior) (order : Order) (preset argument announced : ℕ) (t : CardState) (contents : Partitions) →
     SentTo order argument → AddressFits t.state t.rca →

@@ -69,7 +69,7 @@ pub done_count : (d : CardDesc) (behavior : Behavior) (way : TakenAs) (argument 
 done_count d behavior Forbidden argument t announced contents legal knows = knows
 done_count d behavior Ignored argument t announced contents legal knows = knows
 done_count d behavior (By row) argument t announced contents legal knows =
-    does_count d (row_deed behavior.deed row) row argument (choice_of d behavior row t.checked) t announced legal.preset knows
+    does_count d (row_deed behavior.deed row) row argument (choice_of d behavior row t) t announced legal.preset knows
 
 stepped_count : (o : Option State) (s : CardState) (announced : ℕ) → Knows s announced → Knows (stepped_to o s) announced
 stepped_count None s announced knows = knows

@@ -21,6 +21,8 @@ use Rattle.sdv_card.specs.Agrees.{ErrorShown}
 use Rattle.sdv_card.specs.Exchange.{RowAnswer, unaddressed_answer}
 use Rattle.sdv_card.specs.Legal.{RowLegal}
 use Rattle.sdv_card.specs.Lists.{May}
+use Rattle.sdv_card.specs.Modes.{may_stay_pending}
+use Rattle.sdv_card.specs.declared.state.Mode.{Mode}
 use Rattle.sdv_card.specs.Responses.{response_of, row_index}
 use Rattle.sdv_card.specs.States.{is_ready as is_ready_state}
 use Rattle.sdv_card.specs.StateTable.{rows, targets}
@@ -36,13 +38,13 @@ use Rattle.sdv_behavior.specs.CardOf.{card_with}
 use Rattle.sdv_behavior.proofs.Described.{IsDescribed}
 use Rattle.sdv_registers.specs.Status.{has_doubt}
 use Rattle.sdv_behavior.specs.declared.behavior.StatusError.{StatusError}
-use Rattle.sdv_behavior.specs.Heard.{reports, row_deed, choice_of, answered, does, is_erase}
+use Rattle.sdv_behavior.specs.Heard.{reports, row_deed, choice_of, answered, does, is_erase, is_heard}
 use Rattle.sdv_behavior.specs.Registers.{cid_of}
 use Rattle.sdv_behavior.specs.Replies.{reply_of, shows_app, error_shown}
-use Rattle.sdv_behavior.specs.RowTaken.{state_next, taken_by, stays}
+use Rattle.sdv_behavior.specs.RowTaken.{state_next, mode_left, taken_by, stays}
 use Rattle.sdv_behavior.proofs.Told.{Tells, LeavesBlocks}
 use Rattle.sdv_behavior.specs.Words.{leaves_doubt, doubt_of, status_word, address_word, conditions_word}
-use Rattle.sdv_behavior.proofs.TakenLaw.{announced_with, ChoiceFits, choice_fits, taken_law, stayed_law}
+use Rattle.sdv_behavior.proofs.TakenLaw.{announced_with, ChoiceFits, KeepsFit, choice_fits, taken_law, stayed_law}
 use Rattle.sdv_behavior.proofs.WordLaws.{StatusShows, status_shows, doubt_is, doubt_shown, conditions_show, sd_unit, emmc_unit, address_shows}
 
 -- an answer of the tables at t, which leaves u, as the reply tells it
@@ -192,6 +194,23 @@ error_told {word = word} error true t u before after shows =
       must = λ tran is. doubt;
     }
 
+-- bit 7 of an answer to CMD13 tells whether a pending switch error ends
+switch_told : (keeps : Bool) (mode : Mode) → mode.error ≡ true → (mode.error && not keeps) ≡ not (mode_left Cmd13 keeps mode).error
+switch_told true mode pending = rw pending refl
+switch_told false mode pending = rw pending refl
+
+-- an answer that is heard stays so, whether the card may stay at the row or not
+stays_heard : (may : Bool) → is_heard (if may then Stays else Takes) ≡ true
+stays_heard true = refl
+stays_heard false = refl
+
+-- what is kept may be kept
+kept : (heard heard' keeps : Bool) (from : State) (mode : Mode) → (heard ≡ true → heard' ≡ true) → (keeps && may_stay_pending heard from mode) ≡ true →
+    may_stay_pending heard' from mode ≡ true
+kept true heard' true from mode still e = rw (still refl) e
+kept false heard' true from mode still e = absurd (let f : false ≡ true = e in cc)
+kept heard heard' false from mode still e = absurd (let f : false ≡ true = e in cc)
+
 -- THE ROWS
 
 module _ (d : CardDesc) (is : IsDescribed d) (csd : IsRegister 15 d.csd) (order : Order) (argument : ℕ) (t : CardState) (announced : ℕ)
@@ -211,6 +230,10 @@ module _ (d : CardDesc) (is : IsDescribed d) (csd : IsRegister 15 d.csd) (order 
   abbrev stayed : Row → (heard : Bool) → Choice → Card
   stayed row heard choice = card_with d (answered d row heard (stays d.kind row choice t)) announced contents
 
+  -- a pending switch error is kept only where the tables leave it that
+  abbrev Keeps : (heard : Bool) → Choice → Type 0
+  Keeps heard choice = choice.keeps_switch_error ≡ true → may_stay_pending heard t.state t.mode ≡ true
+
   -- the command did not reach it
   lost : (row : Row) → DeedFits Loses row → RowTold order row argument before before None
   lost Cmd0 f = absurd f
@@ -218,22 +241,24 @@ module _ (d : CardDesc) (is : IsDescribed d) (csd : IsRegister 15 d.csd) (order 
   lost row f = record { answer = TimeOut; told = inr refl; is_reply = tt; answered = inl refl }
 
   -- the answer did not reach the host
-  unheard_row : (row : Row) (choice : Choice) (contents' : Partitions) → DeedFits TakesUnheard row →
-      ((heard : Bool) → Taken row heard argument before (taken row false choice contents')) →
+  unheard_row : (row : Row) (choice : Choice) (contents' : Partitions) → DeedFits TakesUnheard row → Keeps false choice →
+      ((heard : Bool) → KeepsFit row heard choice.keeps_switch_error t.state t.mode → Taken row heard argument before (taken row false choice contents')) →
       RowTold order row argument before (taken row false choice contents') None
-  unheard_row Cmd0 choice contents' f card = absurd f
-  unheard_row Cmd7NotAddressed choice contents' f card = record {
+  unheard_row Cmd0 choice contents' f keeps card = absurd f
+  unheard_row Cmd7NotAddressed choice contents' f keeps card = record {
     answer = unaddressed_answer order;
     told = unheard_answer order;
     is_reply = tt;
-    answered = (refl, inr (record { card = card true; error = refl }));
+    answered = (refl, inr (record { card = card true tt; error = refl }));
   }
-  unheard_row row choice contents' f card =
-      record { answer = TimeOut; told = inr refl; is_reply = tt; answered = inr (inl (record { card = card false; error = refl })) }
+  unheard_row Cmd13 choice contents' f keeps card =
+      record { answer = TimeOut; told = inr refl; is_reply = tt; answered = inr (inl (record { card = card false keeps; error = refl })) }
+  unheard_row row choice contents' f keeps card =
+      record { answer = TimeOut; told = inr refl; is_reply = tt; answered = inr (inl (record { card = card false tt; error = refl })) }
 
   -- CMD8 of an SD card, by its version
   interface : (contents' : Partitions) (choice : Choice) (is_2 : Bool) → (d.version == 2) ≡ is_2 →
-      ((heard : Bool) → Taken Cmd8Sd heard argument before (taken Cmd8Sd true choice contents')) →
+      ((heard : Bool) → Unit {0} → Taken Cmd8Sd heard argument before (taken Cmd8Sd true choice contents')) →
       RowTold order Cmd8Sd argument before (taken Cmd8Sd true choice contents') (if is_2 then Some (R7 0x1aa) else None)
   interface contents' choice true e card = record {
     answer = Replied (R7 0x1aa);
@@ -241,7 +266,7 @@ module _ (d : CardDesc) (is : IsDescribed d) (csd : IsRegister 15 d.csd) (order 
     is_reply = lit< tt;
     answered = record {
       shown = record { is_word = lit< tt; echo = refl; version = eqb-true d.version 2 e };
-      card = card true;
+      card = card true tt;
       error = sym (ap (λ v. v && t.unshown_error) e);
     };
   }
@@ -249,16 +274,16 @@ module _ (d : CardDesc) (is : IsDescribed d) (csd : IsRegister 15 d.csd) (order 
     answer = TimeOut;
     told = inr refl;
     is_reply = tt;
-    answered = inr (inl (record { card = card false; error = sym (ap (λ v. v && t.unshown_error) e) }));
+    answered = inr (inl (record { card = card false tt; error = sym (ap (λ v. v && t.unshown_error) e) }));
   }
 
   -- it takes the row and answers
-  answered_row : (row : Row) (choice : Choice) (contents' : Partitions) → RowLegal row before →
-      ((heard : Bool) → Taken row heard argument before (taken row true choice contents')) →
-      RowTold order row argument before (taken row true choice contents') (reply_of d row t choice.app choice.error choice.ready)
-  answered_row Cmd0 choice contents' legal card =
-      record { answer = Sent; told = inl refl; is_reply = tt; answered = record { card = card true; error = refl } }
-  answered_row Cmd1 choice contents' legal card =
+  answered_row : (row : Row) (choice : Choice) (contents' : Partitions) → RowLegal row before → ChoiceFits d row choice → Keeps true choice →
+      ((heard : Bool) → KeepsFit row heard choice.keeps_switch_error t.state t.mode → Taken row heard argument before (taken row true choice contents')) →
+      RowTold order row argument before (taken row true choice contents') (reply_of d row t choice.app choice.error choice)
+  answered_row Cmd0 choice contents' legal fits keeps card =
+      record { answer = Sent; told = inl refl; is_reply = tt; answered = record { card = card true tt; error = refl } }
+  answered_row Cmd1 choice contents' legal fits keeps card =
       let s = conditions_show Emmc d.block_unit choice.ready in
       let e = op_cond_state d.kind choice.ready t.state (May-targets legal.has_row) in
       record {
@@ -271,47 +296,47 @@ module _ (d : CardDesc) (is : IsDescribed d) (csd : IsRegister 15 d.csd) (order 
           ready = s.ready ∙ sym e;
           unit = λ r. let is : choice.ready ≡ true = sym e ∙ r in
               subst (λ v. access_mode (conditions_word Emmc d.block_unit v) ≡ (if d.block_unit then 2 else 0)) (sym is) (emmc_unit d.block_unit);
-          card = card true;
+          card = card true tt;
           error = refl;
         };
       }
-  answered_row Cmd2 choice contents' legal card =
+  answered_row Cmd2 choice contents' legal fits keeps card =
       record {
         answer = Replied (R2 (cid_of d.kind));
         told = refl;
         is_reply = cid_reply d.kind;
-        answered = record { shown = refl; card = card true; error = refl };
+        answered = record { shown = refl; card = card true tt; error = refl };
       }
-  answered_row Cmd3Sd choice contents' legal card =
-      let s = address_shows d.rca (leaves_doubt choice.error) t.state is.address_fits in
+  answered_row Cmd3Sd choice contents' legal fits keeps card =
+      let s = address_shows choice.address (leaves_doubt choice.error) t.state fits.address_fits in
       record {
-        answer = Replied (R6 (address_word d.rca t.state (leaves_doubt choice.error)));
+        answer = Replied (R6 (address_word choice.address t.state (leaves_doubt choice.error)));
         told = refl;
         is_reply = s.is_word;
-        answered = record { is_word = s.is_word; state = s.state; card = inl (record { card = card true; rca = ap Some s.rca }); error = refl };
+        answered = record { is_word = s.is_word; state = s.state; card = inl (record { card = card true tt; rca = ap Some s.rca }); error = refl };
       }
-  answered_row Cmd7NotAddressed choice contents' legal card = record {
+  answered_row Cmd7NotAddressed choice contents' legal fits keeps card = record {
     answer = unaddressed_answer order;
     told = unheard_answer order;
     is_reply = tt;
-    answered = (refl, inr (record { card = card true; error = refl }));
+    answered = (refl, inr (record { card = card true tt; error = refl }));
   }
-  answered_row Cmd8Sd choice contents' legal card = interface contents' choice (d.version == 2) refl card
-  answered_row Cmd9 choice contents' legal card =
+  answered_row Cmd8Sd choice contents' legal fits keeps card = interface contents' choice (d.version == 2) refl card
+  answered_row Cmd9 choice contents' legal fits keeps card =
       record {
         answer = Replied (R2 d.csd);
         told = refl;
         is_reply = register_reply d.csd csd;
-        answered = record { shown = refl; card = card true; error = refl };
+        answered = record { shown = refl; card = card true tt; error = refl };
       }
-  answered_row Cmd10 choice contents' legal card =
+  answered_row Cmd10 choice contents' legal fits keeps card =
       record {
         answer = Replied (R2 (cid_of d.kind));
         told = refl;
         is_reply = cid_reply d.kind;
-        answered = record { shown = refl; card = card true; error = refl };
+        answered = record { shown = refl; card = card true tt; error = refl };
       }
-  answered_row (Acmd41 high) choice contents' legal card =
+  answered_row (Acmd41 high) choice contents' legal fits keeps card =
       let s = conditions_show Sd d.block_unit choice.ready in
       let e = conditions_state d.kind high choice.ready t.state (May-targets legal.has_row) in
       record {
@@ -324,11 +349,11 @@ module _ (d : CardDesc) (is : IsDescribed d) (csd : IsRegister 15 d.csd) (order 
           ready = s.ready ∙ sym e;
           unit = λ r. let is : choice.ready ≡ true = sym e ∙ r in
               subst (λ v. ccs (conditions_word Sd d.block_unit v) ≡ d.block_unit) (sym is) (sd_unit d.block_unit);
-          card = card true;
+          card = card true tt;
           error = refl;
         };
       }
-  answered_row Cmd55 choice contents' legal card =
+  answered_row Cmd55 choice contents' legal fits keeps card =
       let s = status_shows choice.app false (error_shown choice.error t.unshown_error) t.state in
       record {
         answer = Replied (R1 55 (status_word t.state choice.app false (error_shown choice.error t.unshown_error)));
@@ -338,29 +363,29 @@ module _ (d : CardDesc) (is : IsDescribed d) (csd : IsRegister 15 d.csd) (order 
           is_word = s.is_word;
           same_index = refl;
           state = s.state;
-          card = inl (card true);
+          card = inl (card true tt);
           app = s.app;
           switch = tt;
           error = error_told choice.error t.unshown_error _ _ refl refl s;
         };
       }
-  answered_row Cmd13 choice contents' legal card =
-      let s = status_shows false t.mode.error (error_shown choice.error t.unshown_error) t.state in
+  answered_row Cmd13 choice contents' legal fits keeps card =
+      let s = status_shows false (t.mode.error && not choice.keeps_switch_error) (error_shown choice.error t.unshown_error) t.state in
       record {
-        answer = Replied (R1 13 (status_word t.state false t.mode.error (error_shown choice.error t.unshown_error)));
+        answer = Replied (R1 13 (status_word t.state false (t.mode.error && not choice.keeps_switch_error) (error_shown choice.error t.unshown_error)));
         told = refl;
         is_reply = (lit< tt, s.is_word);
         answered = record {
           is_word = s.is_word;
           same_index = refl;
           state = s.state;
-          card = inl (card true);
+          card = inl (card true keeps);
           app = tt;
-          switch = λ pending. s.switch ∙ pending;
+          switch = λ pending. s.switch ∙ switch_told choice.keeps_switch_error t.mode pending;
           error = error_told choice.error t.unshown_error _ _ refl refl s;
         };
       }
-  answered_row row choice contents' legal card =
+  answered_row row choice contents' legal fits keeps card =
       let s = status_shows (shows_app row && choice.app) false (error_shown choice.error t.unshown_error) t.state in
       record {
         answer = Replied (R1 (row_index row) (status_word t.state (shows_app row && choice.app) false (error_shown choice.error t.unshown_error)));
@@ -370,7 +395,7 @@ module _ (d : CardDesc) (is : IsDescribed d) (csd : IsRegister 15 d.csd) (order 
           is_word = s.is_word;
           same_index = refl;
           state = s.state;
-          card = inl (card true);
+          card = inl (card true tt);
           app = tt;
           switch = tt;
           error = error_told choice.error t.unshown_error _ _ refl refl s;
@@ -378,25 +403,25 @@ module _ (d : CardDesc) (is : IsDescribed d) (csd : IsRegister 15 d.csd) (order 
       }
 
   -- it did not take the row, and answers with an error
-  stayed_row : (row : Row) (choice : Choice) (ready : Bool) → reports (response_of row) ≡ true →
-      RowTold order row argument before (stayed row true choice) (reply_of d row t false (doubt_of choice.error) ready)
-  stayed_row Cmd0 choice ready f = absurd (let f : false ≡ true = f in cc)
-  stayed_row Cmd1 choice ready f = absurd (let f : false ≡ true = f in cc)
-  stayed_row Cmd2 choice ready f = absurd (let f : false ≡ true = f in cc)
-  stayed_row Cmd7NotAddressed choice ready f = absurd (let f : false ≡ true = f in cc)
-  stayed_row Cmd8Sd choice ready f = absurd (let f : false ≡ true = f in cc)
-  stayed_row Cmd9 choice ready f = absurd (let f : false ≡ true = f in cc)
-  stayed_row Cmd10 choice ready f = absurd (let f : false ≡ true = f in cc)
-  stayed_row (Acmd41 high) choice ready f = absurd (let f : false ≡ true = f in cc)
-  stayed_row Cmd3Sd choice ready f =
-      let s = address_shows d.rca (leaves_doubt (doubt_of choice.error)) t.state is.address_fits in
+  stayed_row : (row : Row) (choice : Choice) → reports (response_of row) ≡ true → ChoiceFits d row choice → Keeps true choice →
+      RowTold order row argument before (stayed row true choice) (reply_of d row t false (doubt_of choice.error) choice)
+  stayed_row Cmd0 choice f fits keeps = absurd (let f : false ≡ true = f in cc)
+  stayed_row Cmd1 choice f fits keeps = absurd (let f : false ≡ true = f in cc)
+  stayed_row Cmd2 choice f fits keeps = absurd (let f : false ≡ true = f in cc)
+  stayed_row Cmd7NotAddressed choice f fits keeps = absurd (let f : false ≡ true = f in cc)
+  stayed_row Cmd8Sd choice f fits keeps = absurd (let f : false ≡ true = f in cc)
+  stayed_row Cmd9 choice f fits keeps = absurd (let f : false ≡ true = f in cc)
+  stayed_row Cmd10 choice f fits keeps = absurd (let f : false ≡ true = f in cc)
+  stayed_row (Acmd41 high) choice f fits keeps = absurd (let f : false ≡ true = f in cc)
+  stayed_row Cmd3Sd choice f fits keeps =
+      let s = address_shows choice.address (leaves_doubt (doubt_of choice.error)) t.state fits.address_fits in
       record {
-        answer = Replied (R6 (address_word d.rca t.state (leaves_doubt (doubt_of choice.error))));
+        answer = Replied (R6 (address_word choice.address t.state (leaves_doubt (doubt_of choice.error))));
         told = refl;
         is_reply = s.is_word;
-        answered = record { is_word = s.is_word; state = s.state; card = inr (s.error ∙ doubt_is choice.error, stayed_law d is Cmd3Sd argument t announced contents true (error_left Cmd3Sd true) choice); error = refl };
+        answered = record { is_word = s.is_word; state = s.state; card = inr (s.error ∙ doubt_is choice.error, stayed_law d is Cmd3Sd argument t announced contents true (error_left Cmd3Sd true) choice tt); error = refl };
       }
-  stayed_row Cmd55 choice ready f =
+  stayed_row Cmd55 choice f fits keeps =
       let s = status_shows false false (error_shown (doubt_of choice.error) t.unshown_error) t.state in
       record {
         answer = Replied (R1 55 (status_word t.state false false (error_shown (doubt_of choice.error) t.unshown_error)));
@@ -406,29 +431,29 @@ module _ (d : CardDesc) (is : IsDescribed d) (csd : IsRegister 15 d.csd) (order 
           is_word = s.is_word;
           same_index = refl;
           state = s.state;
-          card = inr (s.error ∙ doubt_shown choice.error t.unshown_error, stayed_law d is Cmd55 argument t announced contents true (error_left Cmd55 true) choice);
+          card = inr (s.error ∙ doubt_shown choice.error t.unshown_error, stayed_law d is Cmd55 argument t announced contents true (error_left Cmd55 true) choice tt);
           app = s.app;
           switch = tt;
           error = error_told (doubt_of choice.error) t.unshown_error _ _ refl refl s;
         };
       }
-  stayed_row Cmd13 choice ready f =
-      let s = status_shows false t.mode.error (error_shown (doubt_of choice.error) t.unshown_error) t.state in
+  stayed_row Cmd13 choice f fits keeps =
+      let s = status_shows false (t.mode.error && not choice.keeps_switch_error) (error_shown (doubt_of choice.error) t.unshown_error) t.state in
       record {
-        answer = Replied (R1 13 (status_word t.state false t.mode.error (error_shown (doubt_of choice.error) t.unshown_error)));
+        answer = Replied (R1 13 (status_word t.state false (t.mode.error && not choice.keeps_switch_error) (error_shown (doubt_of choice.error) t.unshown_error)));
         told = refl;
         is_reply = (lit< tt, s.is_word);
         answered = record {
           is_word = s.is_word;
           same_index = refl;
           state = s.state;
-          card = inr (s.error ∙ doubt_shown choice.error t.unshown_error, stayed_law d is Cmd13 argument t announced contents true (error_left Cmd13 true) choice);
+          card = inr (s.error ∙ doubt_shown choice.error t.unshown_error, stayed_law d is Cmd13 argument t announced contents true (error_left Cmd13 true) choice keeps);
           app = tt;
-          switch = λ pending. s.switch ∙ pending;
+          switch = λ pending. s.switch ∙ switch_told choice.keeps_switch_error t.mode pending;
           error = error_told (doubt_of choice.error) t.unshown_error _ _ refl refl s;
         };
       }
-  stayed_row row choice ready f =
+  stayed_row row choice f fits keeps =
       let s = status_shows false false (error_shown (doubt_of choice.error) t.unshown_error) t.state in
       record {
         answer = Replied (R1 (row_index row) (status_word t.state false false (error_shown (doubt_of choice.error) t.unshown_error)));
@@ -438,7 +463,7 @@ module _ (d : CardDesc) (is : IsDescribed d) (csd : IsRegister 15 d.csd) (order 
           is_word = s.is_word;
           same_index = refl;
           state = s.state;
-          card = inr (s.error ∙ doubt_shown choice.error t.unshown_error, stayed_law d is row argument t announced contents true (error_left row true) choice);
+          card = inr (s.error ∙ doubt_shown choice.error t.unshown_error, stayed_law d is row argument t announced contents true (error_left row true) choice tt);
           app = tt;
           switch = tt;
           error = error_told (doubt_of choice.error) t.unshown_error _ _ refl refl s;
@@ -446,54 +471,71 @@ module _ (d : CardDesc) (is : IsDescribed d) (csd : IsRegister 15 d.csd) (order 
       }
 
   -- it did not take the row, and its answer did not reach the host
-  stayed_unheard : (row : Row) (choice : Choice) → reports (response_of row) ≡ true →
+  stayed_unheard : (row : Row) (choice : Choice) → reports (response_of row) ≡ true → Keeps false choice →
       RowTold order row argument before (stayed row false choice) None
-  stayed_unheard Cmd0 choice f = absurd (let f : false ≡ true = f in cc)
-  stayed_unheard Cmd1 choice f = absurd (let f : false ≡ true = f in cc)
-  stayed_unheard Cmd2 choice f = absurd (let f : false ≡ true = f in cc)
-  stayed_unheard Cmd7NotAddressed choice f = absurd (let f : false ≡ true = f in cc)
-  stayed_unheard Cmd8Sd choice f = absurd (let f : false ≡ true = f in cc)
-  stayed_unheard Cmd9 choice f = absurd (let f : false ≡ true = f in cc)
-  stayed_unheard Cmd10 choice f = absurd (let f : false ≡ true = f in cc)
-  stayed_unheard (Acmd41 high) choice f = absurd (let f : false ≡ true = f in cc)
-  stayed_unheard row choice f = record {
+  stayed_unheard Cmd0 choice f keeps = absurd (let f : false ≡ true = f in cc)
+  stayed_unheard Cmd1 choice f keeps = absurd (let f : false ≡ true = f in cc)
+  stayed_unheard Cmd2 choice f keeps = absurd (let f : false ≡ true = f in cc)
+  stayed_unheard Cmd7NotAddressed choice f keeps = absurd (let f : false ≡ true = f in cc)
+  stayed_unheard Cmd8Sd choice f keeps = absurd (let f : false ≡ true = f in cc)
+  stayed_unheard Cmd9 choice f keeps = absurd (let f : false ≡ true = f in cc)
+  stayed_unheard Cmd10 choice f keeps = absurd (let f : false ≡ true = f in cc)
+  stayed_unheard (Acmd41 high) choice f keeps = absurd (let f : false ≡ true = f in cc)
+  stayed_unheard Cmd13 choice f keeps = record {
     answer = TimeOut;
     told = inr refl;
     is_reply = tt;
-    answered = inr (inr (record { card = stayed_law d is row argument t announced contents false (error_left row false) choice; error = refl }));
+    answered = inr (inr (record { card = stayed_law d is Cmd13 argument t announced contents false (error_left Cmd13 false) choice keeps; error = refl }));
+  }
+  stayed_unheard row choice f keeps = record {
+    answer = TimeOut;
+    told = inr refl;
+    is_reply = tt;
+    answered = inr (inr (record { card = stayed_law d is row argument t announced contents false (error_left row false) choice tt; error = refl }));
   }
 
   -- a row, by the deed
   does_law : (deed : Deed) (row : Row) (choice : Choice) (contents' : Partitions) → DeedFits deed row → ChoiceFits d row choice →
+      Keeps (is_heard deed) choice →
       RowLegal row before →
       LeavesBlocks (does d deed row argument choice t).erases d t.mode.partition contents contents' →
       RowTold order row argument before (card_with d (does d deed row argument choice t).after (announced_by deed row announced) contents')
       (does d deed row argument choice t).reply
-  does_law Loses row choice contents' f fits legal left =
+  does_law Loses row choice contents' f fits keeps legal left =
       subst (λ (cs : Partitions). RowTold order row argument before (card_with d t announced cs) None) left (lost row f)
-  does_law TakesUnheard row choice contents' f fits legal left =
-      unheard_row row choice contents' f
+  does_law TakesUnheard row choice contents' f fits keeps legal left =
+      unheard_row row choice contents' f keeps
       (taken_law d is row argument t announced contents choice contents' fits legal (error_left row false)
       (left_after d row t (answered d row false (taken_by d row argument choice t)) announced (announced_with row announced) contents contents' left))
-  does_law Takes row choice contents' f fits legal left =
-      answered_row row choice contents' legal
+  does_law Takes row choice contents' f fits keeps legal left =
+      answered_row row choice contents' legal fits keeps
       (taken_law d is row argument t announced contents choice contents' fits legal (error_left row true)
       (left_after d row t (answered d row true (taken_by d row argument choice t)) announced (announced_with row announced) contents contents' left))
-  does_law StaysUnheard row choice contents' f fits legal left =
+  does_law StaysUnheard row choice contents' f fits keeps legal left =
       subst (λ (cs : Partitions). RowTold order row argument before (card_with d (answered d row false (stays d.kind row choice t)) announced cs) None) left
-      (stayed_unheard row choice f)
-  does_law Stays row choice contents' f fits legal left =
+      (stayed_unheard row choice f keeps)
+  does_law Stays row choice contents' f fits keeps legal left =
       subst (λ (cs : Partitions). RowTold order row argument before (card_with d (answered d row true (stays d.kind row choice t)) announced cs)
-      (reply_of d row t false (doubt_of choice.error) choice.ready)) left
-      (stayed_row row choice choice.ready f)
+      (reply_of d row t false (doubt_of choice.error) choice)) left
+      (stayed_row row choice f fits keeps)
 
   -- a row, by the behavior
+  heard_still : (deed : Deed) (row : Row) → is_heard deed ≡ true → is_heard (row_deed deed row) ≡ true
+  heard_still Takes Cmd0 e = refl
+  heard_still Takes row e = refl
+  heard_still Stays Cmd0 e = refl
+  heard_still Stays row e = stays_heard (reports (response_of row))
+  heard_still deed row e = absurd (let f : false ≡ true = e in cc)
+
+  keeps_fit : (behavior : Behavior) (row : Row) → Keeps (is_heard (row_deed behavior.deed row)) (choice_of d behavior row t)
+  keeps_fit behavior row e = kept (is_heard behavior.deed) (is_heard (row_deed behavior.deed row)) behavior.keeps_switch_error t.state t.mode (heard_still behavior.deed row) e
+
   pub behaves_law : (behavior : Behavior) (row : Row) (contents' : Partitions) → RowLegal row before →
-      LeavesBlocks (does d (row_deed behavior.deed row) row argument (choice_of d behavior row t.checked) t).erases d t.mode.partition contents contents' →
+      LeavesBlocks (does d (row_deed behavior.deed row) row argument (choice_of d behavior row t) t).erases d t.mode.partition contents contents' →
       RowTold order row argument before
-      (card_with d (does d (row_deed behavior.deed row) row argument (choice_of d behavior row t.checked) t).after
+      (card_with d (does d (row_deed behavior.deed row) row argument (choice_of d behavior row t) t).after
       (announced_by (row_deed behavior.deed row) row announced) contents')
-      (does d (row_deed behavior.deed row) row argument (choice_of d behavior row t.checked) t).reply
+      (does d (row_deed behavior.deed row) row argument (choice_of d behavior row t) t).reply
   behaves_law behavior row contents' legal left =
-      does_law (row_deed behavior.deed row) row (choice_of d behavior row t.checked) contents' (deed_fits behavior.deed row) (choice_fits d behavior row t.checked)
-      legal left
+      does_law (row_deed behavior.deed row) row (choice_of d behavior row t) contents' (deed_fits behavior.deed row) (choice_fits d is behavior row t)
+      (keeps_fit behavior row) legal left

@@ -1,5 +1,5 @@
 -- What a simulator leaves of a card that takes a row is what the tables say of that row, part by part.
-use Rattle.std.proofs.Common.{◌≡◌, ℕ, ◌<◌, not, inl, refl, Bool, true, false, List, [], ◌∷◌, Option}
+use Rattle.std.proofs.Common.{◌≡◌, ℕ, ◌<◌, ◌==◌, not, inl, refl, Bool, true, false, List, [], ◌∷◌, Option, if◌then◌else◌, lit<}
 use Rattle.sdv_registers.specs.declared.kind.Kind.{Kind}
 use Rattle.sdv_registers.specs.declared.kind.Kind.TheVariants.{Sd, Emmc}
 use Rattle.sdv_card.specs.declared.state.State.{State}
@@ -12,7 +12,7 @@ use Rattle.sdv_card.specs.declared.command.Row.TheVariants.{Cmd0, Cmd1, Cmd3Sd, 
 use Rattle.sdv_card.specs.Lists.{May, IsOneOf}
 use Rattle.sdv_card.specs.StateTable.{◌to◌, rows, targets}
 use Rattle.sdv_card.specs.RowRules.{may_reach, app_after, erase_stayed, preset_after, preset_kept, mode_after, mode_stayed, may_switch}
-use Rattle.sdv_card.specs.Modes.{calm, has_partition}
+use Rattle.sdv_card.specs.Modes.{has_partition, may_stay_pending, mode_told}
 use Rattle.sdv_card.specs.Card.{Partitions}
 use Rattle.sdv_card.specs.Legal.{RowLegal}
 use Rattle.sdv_card.specs.Taken.{Taken, Stayed, SameCard, LengthAfter, RcaAfter, BlocksAfter, ContentsAfter}
@@ -24,8 +24,8 @@ use Rattle.sdv_behavior.specs.declared.choice.Choice.{Choice}
 use Rattle.sdv_behavior.specs.Layout.{boot_capacity}
 use Rattle.sdv_behavior.specs.CardOf.{card_with}
 use Rattle.sdv_behavior.proofs.Described.{IsDescribed}
-use Rattle.sdv_behavior.specs.Heard.{is_ready, switch_fails, choice_of}
-use Rattle.sdv_behavior.specs.RowTaken.{first_of, state_next, rca_next, app_next, length_next, mode_next, preset_left, preset_next, erase_left, taken_by, stays}
+use Rattle.sdv_behavior.specs.Heard.{address_of, is_ready, length_of, switch_fails, choice_of}
+use Rattle.sdv_behavior.specs.RowTaken.{first_of, state_next, rca_next, app_next, length_next, mode_left, mode_next, preset_left, preset_next, erase_left, taken_by, stays}
 
 -- STATE
 
@@ -83,23 +83,36 @@ reached_law k row block_unit ready state only m = refl
 
 -- MODE
 
-mode_law : (row : Row) (heard fails : Bool) (from : State) (mode : Mode) → May (mode_after row heard from mode) (mode_next row fails mode)
-mode_law (Cmd6 setting) heard true from mode = there (here refl)
-mode_law (Cmd6 setting) heard false from mode = here refl
-mode_law Cmd0 heard fails from mode = here refl
-mode_law (Acmd6 width) heard fails from mode = here refl
-mode_law row heard fails from mode = here refl
+-- CMD13 keeps a pending switch error only where the tables leave it that
+abbrev pub KeepsFit : Row → (heard keeps : Bool) → State → Mode → Type 0
+KeepsFit Cmd13 heard keeps from mode = keeps ≡ true → may_stay_pending heard from mode ≡ true
+KeepsFit row heard keeps from mode = Unit {0}
 
-mode_stays : (row : Row) (heard : Bool) (from : State) (mode : Mode) → May (mode_stayed row heard from mode) (calm mode)
-mode_stays Cmd13 heard from mode = here refl
-mode_stays row heard from mode = here refl
+told_or_kept : (heard keeps : Bool) (from : State) (mode : Mode) → (keeps ≡ true → may_stay_pending heard from mode ≡ true) →
+    May (mode_told heard from mode) (mode_left Cmd13 keeps mode)
+told_or_kept heard false from mode may = here refl
+told_or_kept heard true from mode may = rw (may refl) (there (here refl))
+
+mode_law : (row : Row) (heard fails keeps : Bool) (from : State) (mode : Mode) → KeepsFit row heard keeps from mode →
+    May (mode_after row heard from mode) (mode_next row fails keeps mode)
+mode_law (Cmd6 setting) heard true keeps from mode fits = there (here refl)
+mode_law (Cmd6 setting) heard false keeps from mode fits = here refl
+mode_law Cmd0 heard fails keeps from mode fits = here refl
+mode_law (Acmd6 width) heard fails keeps from mode fits = here refl
+mode_law Cmd13 heard fails keeps from mode fits = told_or_kept heard keeps from mode fits
+mode_law row heard fails keeps from mode fits = here refl
+
+mode_stays : (row : Row) (heard keeps : Bool) (from : State) (mode : Mode) → KeepsFit row heard keeps from mode →
+    May (mode_stayed row heard from mode) (mode_left row keeps mode)
+mode_stays Cmd13 heard keeps from mode fits = told_or_kept heard keeps from mode fits
+mode_stays row heard keeps from mode fits = here refl
 
 -- a switch that does not fail is one that may succeed
-switch_law : (row : Row) (boot : ℕ) (fails : Bool) (mode : Mode) → (fails ≡ false → may_switch row boot false ≡ true) →
-    may_switch row boot (mode_next row fails mode).error ≡ true
-switch_law (Cmd6 (Access partition)) boot true mode may = refl
-switch_law (Cmd6 (Access partition)) boot false mode may = may refl
-switch_law row boot fails mode may = refl
+switch_law : (row : Row) (boot : ℕ) (fails keeps : Bool) (mode : Mode) → (fails ≡ false → may_switch row boot false ≡ true) →
+    may_switch row boot (mode_next row fails keeps mode).error ≡ true
+switch_law (Cmd6 (Access partition)) boot true keeps mode may = refl
+switch_law (Cmd6 (Access partition)) boot false keeps mode may = may refl
+switch_law row boot fails keeps mode may = refl
 
 not_false : (b : Bool) → not b ≡ false → b ≡ true
 not_false true e = refl
@@ -115,10 +128,39 @@ may_succeed fails row boot e = refl
 pub record ChoiceFits (d : CardDesc) (row : Row) (choice : Choice) : Type 0 where
   pub ready : is_refused row d.block_unit ≡ true → choice.ready ≡ false
   pub switch : choice.switch_fails ≡ false → may_switch row (boot_capacity d) false ≡ true
+  pub some_address : 0 < choice.address
+  pub address_fits : choice.address < 65536
+  pub length : d.block_unit ≡ true → choice.length ≡ 512
 
-pub choice_fits : (d : CardDesc) (behavior : Behavior) (row : Row) (checked : Bool) → ChoiceFits d row (choice_of d behavior row checked)
-choice_fits d behavior row checked =
-    record { ready = not_ready behavior.ready row d.block_unit checked; switch = may_succeed behavior.fails_switch row (boot_capacity d) }
+another_some : (is_1 : Bool) → 0 < (if is_1 then 2 else 1)
+another_some true = lit< tt
+another_some false = lit< tt
+
+another_fits : (is_1 : Bool) → (if is_1 then 2 else 1) < 65536
+another_fits true = lit< tt
+another_fits false = lit< tt
+
+address_some : (described : ℕ) (other : Bool) → 0 < described → 0 < address_of described other
+address_some described false some = some
+address_some described true some = another_some (described == 1)
+
+address_small : (described : ℕ) (other : Bool) → described < 65536 → address_of described other < 65536
+address_small described false fits = fits
+address_small described true fits = another_fits (described == 1)
+
+length_whole : (block_unit : Bool) (described : ℕ) (other : Bool) → (block_unit ≡ true → described ≡ 512) → block_unit ≡ true →
+    length_of block_unit described other ≡ 512
+length_whole true described other whole e = whole refl
+length_whole false described other whole e = absurd (let f : false ≡ true = e in cc)
+
+pub choice_fits : (d : CardDesc) → IsDescribed d → (behavior : Behavior) (row : Row) (t : CardState) → ChoiceFits d row (choice_of d behavior row t)
+choice_fits d is behavior row t = record {
+  ready = not_ready behavior.ready row d.block_unit t.checked;
+  switch = may_succeed behavior.fails_switch row (boot_capacity d);
+  some_address = address_some d.rca behavior.other_address is.some_address;
+  address_fits = address_small d.rca behavior.other_address is.address_fits;
+  length = length_whole d.block_unit d.block_length behavior.other_length is.length;
+}
 
 -- THE OTHER PARTS
 
@@ -139,17 +181,17 @@ preset_law k (Cmd23 n) keeps preset = here refl
 preset_law k (Cmd25 n) keeps preset = here refl
 preset_law k row keeps preset = preset_stays k keeps preset
 
-rca_law : (described : ℕ) (row : Row) (rca : Option ℕ) → 0 < described → described < 65536 → RcaAfter row rca (rca_next described row rca)
-rca_law described Cmd0 rca some fits = refl
-rca_law described Cmd3Sd rca some fits = (described, refl, some, fits)
-rca_law described row rca some fits = refl
+rca_law : (chosen : ℕ) (row : Row) (rca : Option ℕ) → 0 < chosen → chosen < 65536 → RcaAfter row rca (rca_next chosen row rca)
+rca_law chosen Cmd0 rca some fits = refl
+rca_law chosen Cmd3Sd rca some fits = (chosen, refl, some, fits)
+rca_law chosen row rca some fits = refl
 
-length_law : (described : ℕ) (row : Row) (block_unit : Bool) (length : ℕ) → (block_unit ≡ true → described ≡ 512) →
-    LengthAfter row block_unit length (length_next described row length)
-length_law described Cmd0 true length whole = whole refl
-length_law described Cmd0 false length whole = tt
-length_law described Cmd16 block_unit length whole = refl
-length_law described row block_unit length whole = refl
+length_law : (first : ℕ) (row : Row) (block_unit : Bool) (length : ℕ) → (block_unit ≡ true → first ≡ 512) →
+    LengthAfter row block_unit length (length_next first row length)
+length_law first Cmd0 true length whole = whole refl
+length_law first Cmd0 false length whole = tt
+length_law first Cmd16 block_unit length whole = refl
+length_law first row block_unit length whole = refl
 
 erase_stays : (row : Row) (keeps : Bool) (erase : EraseStage) → May (erase_stayed row erase) (erase_left row keeps erase)
 erase_stays Cmd13 keeps erase = here refl
@@ -202,9 +244,9 @@ module _ (d : CardDesc) (is : IsDescribed d) (row : Row) (argument : ℕ) (t : C
   pub taken_law : (choice : Choice) (contents' : Partitions) → ChoiceFits d row choice →
       RowLegal row (card_with d t announced contents) → (error : Bool) →
       ContentsAfter row (card_with d t announced contents) (card_with d (taken_with error d row argument choice t) (announced_with row announced) contents') →
-      (heard : Bool) →
+      (heard : Bool) → KeepsFit row heard choice.keeps_switch_error t.state t.mode →
       Taken row heard argument (card_with d t announced contents) (card_with d (taken_with error d row argument choice t) (announced_with row announced) contents')
-  taken_law choice contents' fits legal error left heard =
+  taken_law choice contents' fits legal error left heard keeps =
       let m = May-targets legal.has_row in
       record {
         same = same_card d t (taken_with error d row argument choice t) announced (announced_with row announced) contents contents';
@@ -212,19 +254,19 @@ module _ (d : CardDesc) (is : IsDescribed d) (row : Row) (argument : ℕ) (t : C
         reached = reached_law d.kind row d.block_unit choice.ready t.state fits.ready m;
         app = app_law row choice.app;
         erase = refl;
-        block_length = length_law d.block_length row d.block_unit t.block_length is.length;
+        block_length = length_law choice.length row d.block_unit t.block_length fits.length;
         preset = preset_law d.kind row choice.keeps_preset t.preset;
-        rca = rca_law d.rca row t.rca is.some_address is.address_fits;
+        rca = rca_law choice.address row t.rca fits.some_address fits.address_fits;
         transfer = refl;
-        mode = mode_law row heard choice.switch_fails t.state t.mode;
-        switched = switch_law row (boot_capacity d) choice.switch_fails t.mode fits.switch;
+        mode = mode_law row heard choice.switch_fails choice.keeps_switch_error t.state t.mode keeps;
+        switched = switch_law row (boot_capacity d) choice.switch_fails choice.keeps_switch_error t.mode fits.switch;
         blocks = blocks_law d row argument choice t error announced contents contents';
         contents = left;
       }
 
-  pub stayed_law : (heard error : Bool) (choice : Choice) →
+  pub stayed_law : (heard error : Bool) (choice : Choice) → KeepsFit row heard choice.keeps_switch_error t.state t.mode →
       Stayed row heard (card_with d t announced contents) (card_with d (stayed_with error d.kind row choice t) announced contents)
-  stayed_law heard error choice = record {
+  stayed_law heard error choice keeps = record {
     same = same_card d t (stayed_with error d.kind row choice t) announced announced contents contents;
     state = refl;
     app = refl;
@@ -233,7 +275,7 @@ module _ (d : CardDesc) (is : IsDescribed d) (row : Row) (argument : ℕ) (t : C
     preset = preset_stays d.kind choice.keeps_preset t.preset;
     rca = refl;
     transfer = refl;
-    mode = mode_stays row heard t.state t.mode;
+    mode = mode_stays row heard choice.keeps_switch_error t.state t.mode keeps;
     blocks = record { block = refl; count_is = refl };
     contents = refl;
   }

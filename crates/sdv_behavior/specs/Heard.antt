@@ -11,7 +11,7 @@ use Rattle.sdv_card.specs.declared.command.Response.{Response}
 use Rattle.sdv_card.specs.declared.command.Response.TheVariants.{Absent, NotAddressed, CardStatus, NewAddress}
 use Rattle.sdv_card.specs.declared.command.TakenAs.{TakenAs}
 use Rattle.sdv_card.specs.declared.command.TakenAs.TheVariants.{Forbidden, Ignored, By}
-use Rattle.sdv_card.specs.Modes.{has_partition}
+use Rattle.sdv_card.specs.Modes.{has_partition, may_stay_pending}
 use Rattle.sdv_card.specs.States.{own_target}
 use Rattle.sdv_card.specs.Responses.{response_of}
 use Rattle.sdv_card.specs.Takes.{taken_as_of, matches}
@@ -69,16 +69,34 @@ abbrev pub sets_app : (expects : Bool) → Row → Bool
 sets_app expects Cmd55 = expects
 sets_app expects row = true
 
+-- the host hears the answer, if there is one
+abbrev pub is_heard : Deed → Bool
+is_heard Takes = true
+is_heard Stays = true
+is_heard deed = false
+
+-- the relative address that CMD3 shows: the described one, or another
+abbrev pub address_of : (described : ℕ) → (other : Bool) → ℕ
+address_of described other = if other then (if described == 1 then 2 else 1) else described
+
+-- the block length after CMD0: the described one, or another; a card with block addresses has 512
+abbrev pub length_of : (block_unit : Bool) → (described : ℕ) → (other : Bool) → ℕ
+length_of block_unit described other =
+    if block_unit || not other then described else (if described == 512 then 1024 else 512)
+
 -- how a card takes a row, or stays at it
-abbrev pub choice_of : CardDesc → Behavior → Row → (checked : Bool) → Choice
-choice_of d behavior row checked =
+abbrev pub choice_of : CardDesc → Behavior → Row → CardState → Choice
+choice_of d behavior row t =
     record {
-      ready = is_ready behavior.ready row d.block_unit checked;
+      ready = is_ready behavior.ready row d.block_unit t.checked;
       switch_fails = switch_fails behavior.fails_switch row (boot_capacity d);
       app = sets_app behavior.expects_app row;
       error = behavior.error;
       keeps_erase = behavior.keeps_erase;
       keeps_preset = behavior.keeps_preset;
+      keeps_switch_error = behavior.keeps_switch_error && may_stay_pending (is_heard behavior.deed) t.state t.mode;
+      address = address_of d.rca behavior.other_address;
+      length = length_of d.block_unit d.block_length behavior.other_length;
     }
 
 -- CMD38 writes zeros
@@ -118,7 +136,7 @@ does d TakesUnheard row argument choice t =
 does d Takes row argument choice t =
     record {
       after = answered d row true (taken_by d row argument choice t);
-      reply = reply_of d row t choice.app choice.error choice.ready;
+      reply = reply_of d row t choice.app choice.error choice;
       erases = is_erase row;
     }
 does d StaysUnheard row argument choice t =
@@ -126,7 +144,7 @@ does d StaysUnheard row argument choice t =
 does d Stays row argument choice t =
     record {
       after = answered d row true (stays d.kind row choice t);
-      reply = reply_of d row t false (doubt_of choice.error) choice.ready;
+      reply = reply_of d row t false (doubt_of choice.error) choice;
       erases = false;
     }
 
@@ -135,7 +153,7 @@ abbrev pub done_as : CardDesc → Behavior → TakenAs → (argument : ℕ) → 
 done_as d behavior Forbidden argument t = unheard t
 done_as d behavior Ignored argument t = unheard t
 done_as d behavior (By row) argument t =
-    does d (row_deed behavior.deed row) row argument (choice_of d behavior row t.checked) t
+    does d (row_deed behavior.deed row) row argument (choice_of d behavior row t) t
 
 -- what comes of a legal order
 abbrev pub hear_at : CardDesc → Behavior → Order → (argument : ℕ) → CardState → Heard

@@ -30,12 +30,12 @@ state_next k Cmd1 false state = state
 state_next k (Acmd41 high) false state = state
 state_next k row ready state = first_of (targets (rows k row) state) state
 
--- RELATIVE ADDRESS: an SD card has the described one, an e.MMC device the one that it is given
-abbrev pub rca_next : (described : ℕ) → Row → Option ℕ → Option ℕ
-rca_next described Cmd0 rca = None
-rca_next described Cmd3Sd rca = Some described
-rca_next described Cmd3Emmc rca = Some 1
-rca_next described row rca = rca
+-- RELATIVE ADDRESS: an SD card has the one that it chooses, an e.MMC device the one that it is given
+abbrev pub rca_next : (chosen : ℕ) → Row → Option ℕ → Option ℕ
+rca_next chosen Cmd0 rca = None
+rca_next chosen Cmd3Sd rca = Some chosen
+rca_next chosen Cmd3Emmc rca = Some 1
+rca_next chosen row rca = rca
 
 -- APPLICATION FLAG: CMD55 sets it, or is taken as an ordinary command
 abbrev pub app_next : Row → (sets : Bool) → Bool
@@ -43,18 +43,22 @@ app_next Cmd55 sets = sets
 app_next row sets = false
 
 -- BLOCK LENGTH
-abbrev pub length_next : (described : ℕ) → Row → ℕ → ℕ
-length_next described Cmd0 length = described
-length_next described Cmd16 length = 512
-length_next described row length = length
+abbrev pub length_next : (first : ℕ) → Row → ℕ → ℕ
+length_next first Cmd0 length = first
+length_next first Cmd16 length = 512
+length_next first row length = length
 
 -- MODE: ACMD6 and CMD6 set their value, unless CMD6 fails; every other command ends a pending switch error, CMD13 by
--- showing it
-abbrev pub mode_next : Row → (fails : Bool) → Mode → Mode
-mode_next Cmd0 fails mode = first_mode
-mode_next (Acmd6 width) fails mode = calm (set (Lines width) mode)
-mode_next (Cmd6 setting) fails mode = if fails then failed mode else calm (set setting mode)
-mode_next row fails mode = calm mode
+-- showing it, or keeps it
+abbrev pub mode_left : Row → (keeps : Bool) → Mode → Mode
+mode_left Cmd13 keeps mode = if keeps then mode else calm mode
+mode_left row keeps mode = calm mode
+
+abbrev pub mode_next : Row → (fails keeps : Bool) → Mode → Mode
+mode_next Cmd0 fails keeps mode = first_mode
+mode_next (Acmd6 width) fails keeps mode = calm (set (Lines width) mode)
+mode_next (Cmd6 setting) fails keeps mode = if fails then failed mode else calm (set setting mode)
+mode_next row fails keeps mode = mode_left row keeps mode
 
 -- PRESET COUNT: an e.MMC device keeps it or forgets it
 abbrev pub preset_left : Kind → (keeps : Bool) → ℕ → ℕ
@@ -109,11 +113,11 @@ last_next row block_unit argument block = block
 abbrev pub taken_by : CardDesc → Row → (argument : ℕ) → Choice → CardState → CardState
 taken_by d row argument choice t = record {
   state = state_next d.kind row choice.ready t.state;
-  rca = rca_next d.rca row t.rca;
+  rca = rca_next choice.address row t.rca;
   app = app_next row choice.app;
-  block_length = length_next d.block_length row t.block_length;
+  block_length = length_next choice.length row t.block_length;
   erase = erase_after row t.erase;
-  mode = mode_next row choice.switch_fails t.mode;
+  mode = mode_next row choice.switch_fails choice.keeps_switch_error t.mode;
   preset = preset_next d.kind row choice.keeps_preset t.preset;
   transfer = transfer_after row t.preset t.transfer;
   next_block = block_next row d.block_unit argument t.next_block;
@@ -131,11 +135,11 @@ erase_left Acmd13 keeps erase = erase
 erase_left row keeps erase = if keeps then erase else Outside
 
 -- the state of a card that did not take a command which reached it: the application flag is lost, and a pending switch
--- error, which an answer to CMD13 shows
+-- error, which an answer to CMD13 shows or keeps
 abbrev pub stays : Kind → Row → Choice → CardState → CardState
 stays k row choice t = record t {
   app = false;
-  mode = calm t.mode;
+  mode = mode_left row choice.keeps_switch_error t.mode;
   erase = erase_left row choice.keeps_erase t.erase;
   preset = preset_left k choice.keeps_preset t.preset;
 }

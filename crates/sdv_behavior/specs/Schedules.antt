@@ -5,7 +5,7 @@ use Rattle.std.specs.List.{list_all}
 use Rattle.sdv_behavior.specs.declared.behavior.Behavior.{Behavior}
 use Rattle.sdv_behavior.specs.declared.behavior.TheConstants.{PROMPT}
 use Rattle.sdv_behavior.specs.declared.mishap.Mishap.{Mishap}
-use Rattle.sdv_behavior.specs.declared.mishap.Mishap.TheVariants.{LosesCommand, LosesAnswer, IsSlow, ReportsError, Refuses, CutsPhase, FailsSwitch, LosesCrcStatus, OmitsAppCommand, LosesCommandWhileBusy, ReportsErrorWhileBusy, FailsWriteLater, MovesOn, ReportsOutOfRange, ReportsEraseSequence, ReportsIllegalCommand}
+use Rattle.sdv_behavior.specs.declared.mishap.Mishap.TheVariants.{LosesCommand, LosesAnswer, IsSlow, ReportsError, Refuses, CutsPhase, FailsSwitch, LosesCrcStatus, OmitsAppCommand, LosesCommandWhileBusy, ReportsErrorWhileBusy, FailsWriteLater, MovesOn, ReportsOutOfRange, ReportsEraseSequence, ReportsIllegalCommand, SetsOtherLength, LosesOtherAddress, RefusesWithOtherAddress, KeepsSwitchError}
 use Rattle.sdv_behavior.specs.declared.mishap.TheConstants.{MISHAPS}
 
 -- NAMES of mishaps in a schedule
@@ -27,6 +27,10 @@ mishap_name MovesOn = codes "time passes"
 mishap_name ReportsOutOfRange = codes "OUT_OF_RANGE"
 mishap_name ReportsEraseSequence = codes "ERASE_SEQ_ERROR"
 mishap_name ReportsIllegalCommand = codes "ILLEGAL_COMMAND"
+mishap_name SetsOtherLength = codes "other block length"
+mishap_name LosesOtherAddress = codes "answer lost with other address"
+mishap_name RefusesWithOtherAddress = codes "refused with other address"
+mishap_name KeepsSwitchError = codes "switch error kept"
 
 -- a shorter one, or the same again
 abbrev pub mishap_short_name : Mishap → List ℕ

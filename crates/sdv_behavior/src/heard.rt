@@ -151,7 +151,7 @@ fn does(
         },
         Deed::Takes => Heard {
             after: answered(desc, row, true, taken_by(desc, row, argument, choice, t)),
-            reply: reply_of(desc, row, t, choice.app, choice.error, choice.ready),
+            reply: reply_of(desc, row, t, choice.app, choice.error, choice),
             erases: is_erase(row),
         },
         Deed::StaysUnheard => Heard {
@@ -161,7 +161,7 @@ fn does(
         },
         Deed::Stays => Heard {
             after: answered(desc, row, true, stays(desc.kind, row, choice, t)),
-            reply: reply_of(desc, row, t, false, doubt_of(choice.error), choice.ready),
+            reply: reply_of(desc, row, t, false, doubt_of(choice.error), choice),
             erases: false,
         },
     }
@@ -175,7 +175,7 @@ fn hear_at(desc: &CardDesc, behavior: Behavior, order: Order, argument: u32, t: 
     match taken_as(order, t.app, matches(t.rca, (argument / 65_536) as u16)) {
         TakenAs::Forbidden | TakenAs::Ignored => Heard::unheard(*t),
         TakenAs::By(row) => {
-            let choice = choice_of(desc, behavior, row, t.checked);
+            let choice = choice_of(desc, behavior, row, t);
             does(desc, row_deed(behavior.deed, row), row, argument, choice, t)
         }
     }

@@ -40,11 +40,19 @@ pub enum Mishap {
     ReportsEraseSequence,
     /// It takes the command, and answers with ILLEGAL_COMMAND.
     ReportsIllegalCommand,
+    /// CMD0 leaves it another block length than the described one.
+    SetsOtherLength,
+    /// It takes CMD3 with another relative address than the described one, and its answer does not reach the host.
+    LosesOtherAddress,
+    /// It does not take CMD3, and answers with an error and another relative address.
+    RefusesWithOtherAddress,
+    /// It does no step of its own, and CMD13 in another state than tran neither shows a pending switch error nor ends it.
+    KeepsSwitchError,
 }
 
 /// The table of mishaps: each with what the card does. The value of a mishap in a schedule is the number of its row, from 1; 0
 /// is no mishap. A file of digits has the first seven.
-pub const MISHAPS: [(Mishap, Behavior); 16] = [
+pub const MISHAPS: [(Mishap, Behavior); 20] = [
     (
         Mishap::LosesCommand,
         Behavior {
@@ -164,6 +172,37 @@ pub const MISHAPS: [(Mishap, Behavior); 16] = [
             ..PROMPT
         },
     ),
+    (
+        Mishap::SetsOtherLength,
+        Behavior {
+            other_length: true,
+            ..PROMPT
+        },
+    ),
+    (
+        Mishap::LosesOtherAddress,
+        Behavior {
+            deed: Deed::TakesUnheard,
+            other_address: true,
+            ..PROMPT
+        },
+    ),
+    (
+        Mishap::RefusesWithOtherAddress,
+        Behavior {
+            deed: Deed::Stays,
+            other_address: true,
+            ..PROMPT
+        },
+    ),
+    (
+        Mishap::KeepsSwitchError,
+        Behavior {
+            settles: false,
+            keeps_switch_error: true,
+            ..PROMPT
+        },
+    ),
 ];
 
 /// The row at a place, if there is one.
@@ -195,6 +234,10 @@ impl Mishap {
             Mishap::ReportsOutOfRange => "OUT_OF_RANGE",
             Mishap::ReportsEraseSequence => "ERASE_SEQ_ERROR",
             Mishap::ReportsIllegalCommand => "ILLEGAL_COMMAND",
+            Mishap::SetsOtherLength => "other block length",
+            Mishap::LosesOtherAddress => "answer lost with other address",
+            Mishap::RefusesWithOtherAddress => "refused with other address",
+            Mishap::KeepsSwitchError => "switch error kept",
         }
     }
 

@@ -8,6 +8,7 @@ ghost use Rattle.sdv_behavior.specs.Replies.{shows_app, shows_switch, error_show
 use crate::behavior::StatusError;
 use crate::card_desc::CardDesc;
 use crate::card_state::CardState;
+use crate::choice::Choice;
 use crate::words::{address_word, conditions_word, doubt_of, leaves_doubt, status_word};
 use sdv_card::state_table::row_index;
 use sdv_card::{Kind, Row};
@@ -63,26 +64,26 @@ pub fn reply_of(
     t: &CardState,
     app: bool,
     error: StatusError,
-    ready: bool,
+    choice: Choice,
 ) -> Option<Reply>
-    ensures reply { result ≡ reply_of desc.now row t.now app error ready }
+    ensures reply { result ≡ reply_of desc.now row t.now app error choice }
     ensures index { IfSome result HasIndex }
 {
     let reply = match row {
         Row::Cmd0 | Row::Cmd7NotAddressed => return None,
         Row::Cmd8Sd if desc.version != 2 => return None,
         Row::Cmd8Sd => Reply::R7(0x1aa),
-        Row::Cmd1 => Reply::R3(conditions_word(Kind::Emmc, desc.block_unit, ready)),
-        Row::Acmd41 { .. } => Reply::R3(conditions_word(Kind::Sd, desc.block_unit, ready)),
+        Row::Cmd1 => Reply::R3(conditions_word(Kind::Emmc, desc.block_unit, choice.ready)),
+        Row::Acmd41 { .. } => Reply::R3(conditions_word(Kind::Sd, desc.block_unit, choice.ready)),
         Row::Cmd2 | Row::Cmd10 => Reply::R2(cid_of(desc.kind)),
-        Row::Cmd3Sd => Reply::R6(address_word(desc.rca, t.state, leaves_doubt(error))),
+        Row::Cmd3Sd => Reply::R6(address_word(choice.address, t.state, leaves_doubt(error))),
         Row::Cmd9 => Reply::R2(desc.csd),
         _ => Reply::R1 {
             index: row_index(row),
             status: status_word(
                 t.state,
                 shows_app(row) && app,
-                shows_switch(row) && t.mode.error,
+                shows_switch(row) && (t.mode.error && !choice.keeps_switch_error),
                 error_shown(error, t.unshown_error),
             ),
         },

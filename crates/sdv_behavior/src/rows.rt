@@ -3,7 +3,7 @@
 ghost use Rattle.std.specs.Prelude.{◌≡◌};
 ghost use Rattle.sdv_card.specs.StateTable.{rows, targets};
 ghost use Rattle.sdv_card.specs.NextStates.{next_states};
-ghost use Rattle.sdv_behavior.specs.RowTaken.{state_next, rca_next, app_next, length_next, mode_next, preset_left, preset_next, erase_left, block_next, count_of, announced_next, checked_next, first_next, last_next, taken_by, stays};
+ghost use Rattle.sdv_behavior.specs.RowTaken.{state_next, rca_next, app_next, length_next, mode_left, mode_next, preset_left, preset_next, erase_left, block_next, count_of, announced_next, checked_next, first_next, last_next, taken_by, stays};
 ghost use Rattle.sdv_card.specs.Taken.{block_of};
 
 use crate::card_desc::CardDesc;
@@ -37,13 +37,13 @@ fn state_next(kind: Kind, row: Row, ready: bool, state: State) -> State
     }
 }
 
-/// The relative address: an SD card has the described one, an e.MMC device the one that it is given.
-fn rca_next(described: u16, row: Row, rca: Option<u16>) -> Option<u16>
-    ensures { result ≡ rca_next described row rca }
+/// The relative address: an SD card has the one that it chooses, an e.MMC device the one that it is given.
+fn rca_next(chosen: u16, row: Row, rca: Option<u16>) -> Option<u16>
+    ensures { result ≡ rca_next chosen row rca }
 {
     match row {
         Row::Cmd0 => None,
-        Row::Cmd3Sd => Some(described),
+        Row::Cmd3Sd => Some(chosen),
         Row::Cmd3Emmc => Some(1),
         _ => rca,
     }
@@ -60,26 +60,36 @@ fn app_next(row: Row, sets: bool) -> bool
 }
 
 /// The block length.
-fn length_next(described: u16, row: Row, length: u16) -> u16
-    ensures { result ≡ length_next described row length }
+fn length_next(first: u16, row: Row, length: u16) -> u16
+    ensures { result ≡ length_next first row length }
 {
     match row {
-        Row::Cmd0 => described,
+        Row::Cmd0 => first,
         Row::Cmd16 => 512,
         _ => length,
     }
 }
 
+/// The mode after a command that is no switch: it ends a pending switch error, but CMD13 may keep it.
+fn mode_left(row: Row, keeps: bool, mode: Mode) -> Mode
+    ensures { result ≡ mode_left row keeps mode }
+{
+    match row {
+        Row::Cmd13 if keeps => mode,
+        _ => mode.calm(),
+    }
+}
+
 /// The mode.
-fn mode_next(row: Row, fails: bool, mode: Mode) -> Mode
-    ensures { result ≡ mode_next row fails mode }
+fn mode_next(row: Row, fails: bool, keeps: bool, mode: Mode) -> Mode
+    ensures { result ≡ mode_next row fails keeps mode }
 {
     match row {
         Row::Cmd0 => Mode::first(),
         Row::Acmd6 { width } => mode.set(Setting::Lines(width)).calm(),
         Row::Cmd6 { .. } if fails => mode.failed(),
         Row::Cmd6 { setting } => mode.set(setting).calm(),
-        _ => mode.calm(),
+        _ => mode_left(row, keeps, mode),
     }
 }
 
@@ -188,11 +198,11 @@ pub fn taken_by(
 {
     CardState {
         state: state_next(desc.kind, row, choice.ready, t.state),
-        rca: rca_next(desc.rca, row, t.rca),
+        rca: rca_next(choice.address, row, t.rca),
         app: app_next(row, choice.app),
-        block_length: length_next(desc.block_length, row, t.block_length),
+        block_length: length_next(choice.length, row, t.block_length),
         erase: erase_after(row, t.erase),
-        mode: mode_next(row, choice.switch_fails, t.mode),
+        mode: mode_next(row, choice.switch_fails, choice.keeps_switch_error, t.mode),
         preset: preset_next(desc.kind, row, choice.keeps_preset, t.preset),
         transfer: transfer_after(row, t.preset, t.transfer),
         next_block: block_next(row, desc.block_unit, argument, t.next_block),
@@ -221,7 +231,7 @@ pub fn stays(kind: Kind, row: Row, choice: Choice, t: &CardState) -> CardState
 {
     CardState {
         app: false,
-        mode: t.mode.calm(),
+        mode: mode_left(row, choice.keeps_switch_error, t.mode),
         erase: erase_left(row, choice.keeps_erase, t.erase),
         preset: preset_left(kind, choice.keeps_preset, t.preset),
         ..*t

@@ -33,7 +33,7 @@ const NO_EVENT: &str = "schedule fault: no event (CMD18, 2nd CMD18, line 31, eve
 
 /// What is said of a line that names no mishap.
 const NO_MISHAP: &str =
-    "schedule fault: no mishap (command lost, answer lost, not ready, error shown, refused, phase cut, switch fails, CRC status lost, no APP_CMD, lost while busy, error while busy, write fails, time passes, OUT_OF_RANGE, ERASE_SEQ_ERROR, ILLEGAL_COMMAND)";
+    "schedule fault: no mishap (command lost, answer lost, not ready, error shown, refused, phase cut, switch fails, CRC status lost, no APP_CMD, lost while busy, error while busy, write fails, time passes, OUT_OF_RANGE, ERASE_SEQ_ERROR, ILLEGAL_COMMAND, other block length, answer lost with other address, refused with other address, switch error kept)";
 
 /// Why the program ends without its answer.
 #[derive(Clone, Copy, Debug, PartialEq, Eq)]

@@ -3,7 +3,7 @@ use Rattle.std.specs.Prelude.{◌==◌, ◌&&◌, ◌||◌, not, nat_le, Bool, t
 use Rattle.std.specs.List.{list_any}
 use Rattle.sdv_behavior.specs.Schedules.{mishap_of_code}
 use Rattle.sdv_behavior.specs.declared.mishap.Mishap.{Mishap}
-use Rattle.sdv_behavior.specs.declared.mishap.Mishap.TheVariants.{LosesCommand, LosesAnswer, IsSlow, ReportsError, Refuses, CutsPhase, FailsSwitch, LosesCrcStatus, OmitsAppCommand, LosesCommandWhileBusy, ReportsErrorWhileBusy, FailsWriteLater, MovesOn, ReportsOutOfRange, ReportsEraseSequence, ReportsIllegalCommand}
+use Rattle.sdv_behavior.specs.declared.mishap.Mishap.TheVariants.{LosesCommand, LosesAnswer, IsSlow, ReportsError, Refuses, CutsPhase, FailsSwitch, LosesCrcStatus, OmitsAppCommand, LosesCommandWhileBusy, ReportsErrorWhileBusy, FailsWriteLater, MovesOn, ReportsOutOfRange, ReportsEraseSequence, ReportsIllegalCommand, SetsOtherLength, LosesOtherAddress, RefusesWithOtherAddress, KeepsSwitchError}
 use Rattle.sdv_refute.specs.declared.next.Next.{Next}
 use Rattle.sdv_refute.specs.declared.next.Next.TheVariants.{Send, Receive, ReceiveRegister, Give, Wait}
 use Rattle.sdv_search.specs.declared.sweeping.TheConstants.{VALUES}
@@ -41,6 +41,10 @@ shows_errors index argument = has_answer index argument && finds_busy index argu
 abbrev pub is_switch : (index argument : ℕ) → Bool
 is_switch index argument = (index == 6) && nat_le 0x03000000 argument
 
+-- CMD3 of SD asks for a new relative address; that of e.MMC gives one
+abbrev pub asks_address : (index argument : ℕ) → Bool
+asks_address index argument = (index == 3) && (argument == 0)
+
 -- no command but CMD0 always arrives
 abbrev pub command_can_have : Mishap → (index argument : ℕ) → Bool
 command_can_have LosesCommand index argument = not (index == 0)
@@ -55,6 +59,10 @@ command_can_have ReportsErrorWhileBusy index argument = finds_busy index argumen
 command_can_have ReportsOutOfRange index argument = shows_errors index argument
 command_can_have ReportsEraseSequence index argument = shows_errors index argument
 command_can_have ReportsIllegalCommand index argument = shows_errors index argument
+command_can_have SetsOtherLength index argument = index == 0
+command_can_have LosesOtherAddress index argument = asks_address index argument
+command_can_have RefusesWithOtherAddress index argument = asks_address index argument
+command_can_have KeepsSwitchError index argument = index == 13
 command_can_have mishap index argument = false
 
 abbrev pub can_have : Mishap → Next → Bool

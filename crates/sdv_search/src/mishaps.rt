@@ -157,6 +157,16 @@ fn words_around(mishap: Mishap) -> (&'static str, &'static str) {
         Mishap::ReportsOutOfRange => ("the answer to ", " shows OUT_OF_RANGE"),
         Mishap::ReportsEraseSequence => ("the card refuses ", " with ERASE_SEQ_ERROR"),
         Mishap::ReportsIllegalCommand => ("the answer to ", " shows ILLEGAL_COMMAND"),
+        Mishap::SetsOtherLength => ("", " leaves another block length"),
+        Mishap::LosesOtherAddress => (
+            "the card takes another relative address at ",
+            ", and the answer is lost",
+        ),
+        Mishap::RefusesWithOtherAddress => (
+            "the card refuses ",
+            " with an error and another relative address",
+        ),
+        Mishap::KeepsSwitchError => ("the switch error is kept at ", ""),
     }
 }
 

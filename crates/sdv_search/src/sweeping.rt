@@ -18,7 +18,7 @@ use std::alloc::{AllocError, Global};
 use std::io::{self, Write};
 
 /// The values of a schedule are below this: 0, and one for each row of `MISHAPS`.
-pub const VALUES: u8 = 17;
+pub const VALUES: u8 = 21;
 
 /// What a run comes to.
 #[derive(Clone, Copy)]

@@ -2,7 +2,7 @@
 
 ghost use Rattle.std.specs.Prelude.{◌≡◌};
 ghost use Rattle.sdv_search.specs.Table.{any_row_wrong, any_run_wrong, can_have_code, fails, is_stopped, is_wrong};
-ghost use Rattle.sdv_search.specs.Table.{asks_ready, asks_register, can_have, command_can_have, finds_busy, has_answer, is_switch, shows_errors};
+ghost use Rattle.sdv_search.specs.Table.{asks_address, asks_ready, asks_register, can_have, command_can_have, finds_busy, has_answer, is_switch, shows_errors};
 
 use crate::sweeping::{Cell, Row, RunEnd, SweepTable};
 use sdv_behavior::Mishap;
@@ -81,6 +81,13 @@ fn is_switch(index: u8, argument: u64) -> bool
     index == 6 && argument >= 0x0300_0000
 }
 
+/// A command asks an SD card for a new relative address.
+fn asks_address(index: u8, argument: u64) -> bool
+    ensures { result ≡ asks_address index argument }
+{
+    index == 3 && argument == 0
+}
+
 /// A mishap can come at a command.
 fn command_can_have(mishap: Mishap, index: u8, argument: u64) -> bool
     ensures { result ≡ command_can_have mishap index argument }
@@ -95,6 +102,11 @@ fn command_can_have(mishap: Mishap, index: u8, argument: u64) -> bool
         | Mishap::ReportsEraseSequence
         | Mishap::ReportsIllegalCommand => shows_errors(index, argument),
         Mishap::FailsSwitch => is_switch(index, argument),
+        Mishap::SetsOtherLength => index == 0,
+        Mishap::LosesOtherAddress | Mishap::RefusesWithOtherAddress => asks_address(
+            index, argument,
+        ),
+        Mishap::KeepsSwitchError => index == 13,
         Mishap::OmitsAppCommand => index == 55,
         Mishap::ReportsErrorWhileBusy => finds_busy(index, argument),
         Mishap::CutsPhase | Mishap::LosesCrcStatus | Mishap::FailsWriteLater | Mishap::MovesOn =>
