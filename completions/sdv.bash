@@ -109,7 +109,7 @@ _sdv() {
         --registers) _sdv_files "$word" '*' && return ;;
         esac
         case $word:$place in
-        -*) _sdv_words "$word" "--json --annotate --script --registers --svg" ;;
+        -*) _sdv_words "$word" "--json --annotate --running --script --registers --svg" ;;
         *:0) _sdv_words "$word" "sd emmc" ;;
         *:1) _sdv_files "$word" '*.trace' ;;
         esac ;;

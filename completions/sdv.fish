@@ -62,6 +62,7 @@ complete -c sdv -n "__fish_seen_subcommand_from drive" -l plain -d "Print comman
 complete -c sdv -n "__fish_seen_subcommand_from emit" -l binary -r -F -d "The file for the words of the table as bytes"
 complete -c sdv -n "__fish_seen_subcommand_from audit try" -l json -d "Print JSON"
 complete -c sdv -n "__fish_seen_subcommand_from audit" -l annotate -d "Print each line of the trace too"
+complete -c sdv -n "__fish_seen_subcommand_from audit" -l running -d "The trace begins in a running system"
 complete -c sdv -n "__fish_seen_subcommand_from audit" -l script -r -F -d "The script of the trace"
 complete -c sdv -n "__fish_seen_subcommand_from audit" -l registers -r -F -d "The bytes of the registers that came"
 complete -c sdv -n "__fish_seen_subcommand_from audit" -l svg -d "Print a picture in SVG"

@@ -17,7 +17,7 @@ A command that is not legal in a state that the card may be in.
   2 lines, 1 reckless, 0 that no card answers, 0 of another length, 0 beyond the capacity, 0 outside, 0 not followed, 0 left out
   [1]
   $ sdv audit --json sd b.trace
-  {"line":2,"told":"CMD17 00000000","finding":"reckless","text":"a card that answered so may be in idle: byte addresses, block length not 512; it is not legal in idle state"}
+  {"line":2,"told":"CMD17 00000000","finding":"reckless","any_state":false,"bounded":true,"outside_before":false,"text":"a card that answered so may be in idle: byte addresses, block length not 512; it is not legal in idle state"}
   {"lines":2,"reckless":1,"unanswered":0,"lengths":0,"beyond":0,"outside":0,"not_followed":0,"left_out":0}
   [1]
 
@@ -37,8 +37,8 @@ Lines outside the tables alone are no finding, and a trace may have no line.
 What is found behind such a line rests on it, and says so. Both premises of a verdict may stand together.
 
   $ printf 'CMD5 00000000 timeout\nCMD0 00000000 -\nCMD17 00000000 R1 00000900\n' | sdv audit sd --json -
-  {"line":1,"told":"CMD5 00000000","finding":"outside","text":"outside the tables; the audit goes on as if it had not come"}
-  {"line":3,"told":"CMD17 00000000","finding":"reckless","text":"a card that answered so may be in idle: byte addresses, block length not 512; it is not legal in idle state (a line outside the tables came before it)"}
+  {"line":1,"told":"CMD5 00000000","finding":"outside","any_state":false,"bounded":true,"outside_before":false,"text":"outside the tables; the audit goes on as if it had not come"}
+  {"line":3,"told":"CMD17 00000000","finding":"reckless","any_state":false,"bounded":true,"outside_before":true,"text":"a card that answered so may be in idle: byte addresses, block length not 512; it is not legal in idle state (a line outside the tables came before it)"}
   {"lines":3,"reckless":1,"unanswered":0,"lengths":0,"beyond":0,"outside":1,"not_followed":0,"left_out":0}
   [1]
 
@@ -58,8 +58,8 @@ What is wrong with a line is named from the left, and what was printed before it
   trace fault Index line 2
   [1]
   $ printf 'CMD5 00000000 timeout\n' | sdv audit sd --annotate --json -
-  {"line":1,"told":"CMD5 00000000 timeout","finding":"states","text":"in idle"}
-  {"line":1,"told":"CMD5 00000000","finding":"outside","text":"outside the tables; the audit goes on as if it had not come"}
+  {"line":1,"told":"CMD5 00000000 timeout","finding":"states","any_state":false,"bounded":true,"outside_before":false,"text":"in idle"}
+  {"line":1,"told":"CMD5 00000000","finding":"outside","any_state":false,"bounded":true,"outside_before":false,"text":"outside the tables; the audit goes on as if it had not come"}
   {"line":1,"told":"","finding":"end","text":"in idle"}
   {"lines":1,"reckless":0,"unanswered":0,"lengths":0,"beyond":0,"outside":1,"not_followed":0,"left_out":0}
 
@@ -106,7 +106,7 @@ A phase that no host makes, whatever the card answers.
   10 lines, 0 reckless, 0 that no card answers, 1 of another length, 0 beyond the capacity, 0 outside, 0 not followed, 0 left out
   [1]
   $ printf '%s\n' 'CMD24 00000008 R1 00000900' 'OUT 2 cut' | cat up - | sdv audit sd - --json
-  {"line":10,"told":"OUT 2 cut","finding":"length","text":"no host of the tables makes this phase: 1 due"}
+  {"line":10,"told":"OUT 2 cut","finding":"length","any_state":false,"bounded":true,"outside_before":false,"text":"no host of the tables makes this phase: 1 due"}
   {"lines":10,"reckless":0,"unanswered":0,"lengths":1,"beyond":0,"outside":0,"not_followed":0,"left_out":0}
   [1]
 
@@ -175,10 +175,10 @@ Blank lines and comments tell nothing of the bus, but have numbers, and white sp
   2 lines, 1 reckless, 0 that no card answers, 0 of another length, 0 beyond the capacity, 0 outside, 0 not followed, 2 left out
   [1]
   $ sdv audit sd c.trace --annotate --json
-  {"line":2,"told":"CMD0 00000000 -","finding":"states","text":"in idle"}
-  {"line":5,"told":"CMD17 00000000 R1 00000900","finding":"states","text":"in idle"}
-  {"line":5,"told":"CMD17 00000000","finding":"reckless","text":"a card that answered so may be in idle: byte addresses, block length not 512; it is not legal in idle state"}
-  {"line":8,"told":"","finding":"end","text":"waits for CMD0"}
+  {"line":2,"told":"CMD0 00000000 -","finding":"states","any_state":false,"bounded":true,"outside_before":false,"text":"in idle"}
+  {"line":5,"told":"CMD17 00000000 R1 00000900","finding":"states","any_state":false,"bounded":true,"outside_before":false,"text":"in idle"}
+  {"line":5,"told":"CMD17 00000000","finding":"reckless","any_state":false,"bounded":true,"outside_before":false,"text":"a card that answered so may be in idle: byte addresses, block length not 512; it is not legal in idle state"}
+  {"line":8,"told":"","finding":"end","text":"in any state"}
   {"lines":2,"reckless":1,"unanswered":0,"lengths":0,"beyond":0,"outside":0,"not_followed":0,"left_out":2}
   [1]
   $ printf ' # a log\n' | sdv audit sd -
@@ -191,13 +191,14 @@ Where no state is left, no line is followed until the next CMD0. There, or at th
 
   $ printf '%s\n' 'CMD0 00000000 -' 'CMD8 000001aa R7 000001ab' 'CMD55 00000000 R1 00000120' 'CMD41 40ff8000 R3 c0ff8000' > d.trace; cat d.trace d.trace | sdv audit sd -
   line 2: CMD8 000001aa: no card answers so: R7 000001ab; a card repeats the argument
-  line 5: CMD0 00000000: the audit begins anew; lines before it that are not followed: 2
+  line 3: CMD55 00000000: before it the card may be in any state
+  line 5: CMD0 00000000: the audit begins anew
   line 6: CMD8 000001aa: no card answers so: R7 000001ab; a card repeats the argument
-  at the end: lines before it that are not followed: 2
-  8 lines, 0 reckless, 2 that no card answers, 0 of another length, 0 beyond the capacity, 0 outside, 4 not followed, 0 left out
+  line 7: CMD55 00000000: before it the card may be in any state
+  8 lines, 0 reckless, 2 that no card answers, 0 of another length, 0 beyond the capacity, 0 outside, 0 not followed, 0 left out
   [1]
   $ sdv audit sd d.trace --json
-  {"line":2,"told":"CMD8 000001aa","finding":"unanswered","text":"no card answers so: R7 000001ab; a card repeats the argument"}
-  {"line":4,"told":"","finding":"not_followed","text":"lines before it that are not followed: 2"}
-  {"lines":4,"reckless":0,"unanswered":1,"lengths":0,"beyond":0,"outside":0,"not_followed":2,"left_out":0}
+  {"line":2,"told":"CMD8 000001aa","finding":"unanswered","any_state":false,"bounded":true,"outside_before":false,"text":"no card answers so: R7 000001ab; a card repeats the argument"}
+  {"line":3,"told":"CMD55 00000000","finding":"any_state","any_state":true,"bounded":false,"outside_before":false,"text":"before it the card may be in any state"}
+  {"lines":4,"reckless":0,"unanswered":1,"lengths":0,"beyond":0,"outside":0,"not_followed":0,"left_out":0}
   [1]

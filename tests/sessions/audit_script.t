@@ -82,12 +82,13 @@ Errors in a status, a phase that was cut, and a wait.
   $ printf 'CMD0 00000000 -\nCMD13 00000000 R1 ffffffff\nIN 0 cut\nWAIT late\nfault stop\n' | sdv audit sd - --script odd.sdv
   line 1, script line 2: CMD0 00000000 -: no answer is due
   line 2, script line 3: CMD13 00000000 R1 ffffffff: reserved state, OUT_OF_RANGE, ADDRESS_ERROR, BLOCK_LEN_ERROR, ERASE_SEQ_ERROR, ERASE_PARAM, WP_VIOLATION, CARD_IS_LOCKED, LOCK_UNLOCK_FAILED, COM_CRC_ERROR, ILLEGAL_COMMAND, CARD_ECC_FAILED, CC_ERROR, ERROR, CSD_OVERWRITE, WP_ERASE_SKIP, ERASE_RESET, ready, SWITCH_ERROR, APP_CMD
-  line 3, script line 4: IN 0 cut: blocks from the card, cut: the tables have no such answer here
-  line 4, script line 5: WAIT late: still busy: the tables have no such answer here
+  line 3, script line 4: IN 0 cut: blocks from the card, cut: the card may be in any state
+  line 4, script line 5: WAIT late: still busy: the card may be in tran or prg
   line 5, script line 6: fault stop: the run ends
   line 2: CMD13 00000000: a card that answered so may be in idle: byte addresses, block length not 512; it is not legal in idle state
-  at the end: lines before it that are not followed: 3
-  5 lines, 1 reckless, 0 that no card answers, 0 of another length, 0 beyond the capacity, 0 outside, 3 not followed, 0 left out
+  line 3: IN 0 cut: before it the card may be in any state
+  line 3: IN 0 cut: outside the tables; the audit goes on as if it had not come
+  5 lines, 1 reckless, 0 that no card answers, 0 of another length, 0 beyond the capacity, 1 outside, 0 not followed, 0 left out
   [1]
 
 A trace may end before the run does.
@@ -198,13 +199,13 @@ Each line of a trace has a row: commands and answers, registers, a wait, and wha
   <text x="4" y="3.4" font-size="2.4">script line 4</text><text x="4" y="7" font-size="2" fill="gray">trace line 3</text>
   <path d="M110 6H77" stroke="steelblue" stroke-width="1.6"/><path d="M73 4l4 4m0 -4l-4 4" stroke="firebrick" stroke-width="0.5"/>
   <text x="75" y="2.8" text-anchor="middle" font-size="2.8">IN 0 cut</text>
-  <text x="124" y="5.6" font-size="2.8">blocks from the card, cut: the tables have no such answer here</text>
+  <text x="124" y="5.6" font-size="2.8">blocks from the card, cut: the card may be in any state</text>
   </g>
   <g transform="translate(0 40)">
   <text x="4" y="3.4" font-size="2.4">script line 5</text><text x="4" y="7" font-size="2" fill="gray">trace line 4</text>
   <rect x="100" y="1.6" width="20" height="6" fill="mistyrose" stroke="firebrick" stroke-width="0.4"/>
   <text x="110" y="5.6" text-anchor="middle" font-size="2.8">WAIT late</text>
-  <text x="124" y="5.6" font-size="2.8">still busy: the tables have no such answer here</text>
+  <text x="124" y="5.6" font-size="2.8">still busy: the card may be in tran or prg</text>
   </g>
   <g transform="translate(0 50)">
   <text x="4" y="3.4" font-size="2.4">script line 6</text><text x="4" y="7" font-size="2" fill="gray">trace line 5</text>
@@ -285,9 +286,9 @@ A picture of a trace that is off is whole, with the lines that are told. A line 
 A trace is told in one form, which is looked at before the files. Registers and a picture are of a trace beside its script.
 
   $ sdv audit sd none --script none --json --svg; sdv audit sd none --script none --annotate; sdv audit sd none --svg
-  usage: --json and --svg exclude each other: sdv audit KIND TRACE [--json] [--annotate] [--script SCRIPT] [--registers FILE] [--svg]
-  usage: --annotate and --script exclude each other: sdv audit KIND TRACE [--json] [--annotate] [--script SCRIPT] [--registers FILE] [--svg]
-  usage: --registers and --svg need --script: sdv audit KIND TRACE [--json] [--annotate] [--script SCRIPT] [--registers FILE] [--svg]
+  usage: --json and --svg exclude each other: sdv audit KIND TRACE [--json] [--annotate] [--running] [--script SCRIPT] [--registers FILE] [--svg]
+  usage: --script goes with neither --annotate nor --running: sdv audit KIND TRACE [--json] [--annotate] [--running] [--script SCRIPT] [--registers FILE] [--svg]
+  usage: --registers and --svg need --script: sdv audit KIND TRACE [--json] [--annotate] [--running] [--script SCRIPT] [--registers FILE] [--svg]
   [2]
   $ sdv audit mmc none --script none 2>&1 | cut -c 1-30; sdv audit emmc up.trace --script $up
   usage: mmc is no KIND (sd or e

@@ -27,8 +27,12 @@ Words that no other session shows: of lines of traces beside a script.
   line 9, script line 10: REG 8 ok: SCR
   line 10, script line 11: done: the run ends
   line 2: CMD8 000001aa: no card answers so: R7 000001ab; a card repeats the argument
-  at the end: lines before it that are not followed: 8
-  10 lines, 0 reckless, 1 that no card answers, 0 of another length, 0 beyond the capacity, 0 outside, 8 not followed, 0 left out
+  line 3: CMD10 00000000: before it the card may be in any state
+  line 4: CMD24 00000000: a card that answered so may be in stby: byte addresses, block length not 512; it is not legal in stby state (no state that is left allows it)
+  line 5: OUT 1 ok: before it the card may be in any state
+  line 6: OUT 1 cut: a card that answered so may be in prg: byte addresses, block length not 512; no write of blocks is due (no state that is left allows it)
+  line 7: WAIT ok: before it the card may be in any state
+  10 lines, 2 reckless, 1 that no card answers, 0 of another length, 0 beyond the capacity, 0 outside, 0 not followed, 0 left out
   [1]
   $ printf '\001\045\200\000\002\003\004\005' | sdv audit sd words.trace --script words.sdv --registers - | sed -n 9p
   line 9, script line 10: REG 8 ok: SCR 0125800002030405
@@ -124,19 +128,21 @@ An audit that waits for a CMD0 says so, with each line of the trace.
   line 1: CMD0 00000000 -: in idle
   line 2: CMD13 00000000 R1 00000900: in idle
   line 2: CMD13 00000000: a card that answered so may be in idle: byte addresses, block length not 512; it is not legal in idle state
-  line 3: CMD13 00000000 R1 00000900: waits for CMD0
-  line 4: CMD0 00000000 -: waits for CMD0
-  line 4: CMD0 00000000: the audit begins anew; lines before it that are not followed: 1
+  line 3: CMD13 00000000 R1 00000900: in any state
+  line 3: CMD13 00000000: before it the card may be in any state
+  line 4: CMD0 00000000 -: in tran or data
+  line 4: CMD0 00000000: the audit begins anew
   at the end: in idle
-  4 lines, 1 reckless, 0 that no card answers, 0 of another length, 0 beyond the capacity, 0 outside, 1 not followed, 0 left out
+  4 lines, 1 reckless, 0 that no card answers, 0 of another length, 0 beyond the capacity, 0 outside, 0 not followed, 0 left out
   [1]
   $ sdv audit sd wrong.trace --annotate --json
-  {"line":1,"told":"CMD0 00000000 -","finding":"states","text":"in idle"}
-  {"line":2,"told":"CMD13 00000000 R1 00000900","finding":"states","text":"in idle"}
-  {"line":2,"told":"CMD13 00000000","finding":"reckless","text":"a card that answered so may be in idle: byte addresses, block length not 512; it is not legal in idle state"}
-  {"line":3,"told":"CMD13 00000000 R1 00000900","finding":"states","text":"waits for CMD0"}
-  {"line":4,"told":"CMD0 00000000 -","finding":"states","text":"waits for CMD0"}
-  {"line":4,"told":"CMD0 00000000","finding":"anew","text":"the audit begins anew; lines before it that are not followed: 1"}
+  {"line":1,"told":"CMD0 00000000 -","finding":"states","any_state":false,"bounded":true,"outside_before":false,"text":"in idle"}
+  {"line":2,"told":"CMD13 00000000 R1 00000900","finding":"states","any_state":false,"bounded":true,"outside_before":false,"text":"in idle"}
+  {"line":2,"told":"CMD13 00000000","finding":"reckless","any_state":false,"bounded":true,"outside_before":false,"text":"a card that answered so may be in idle: byte addresses, block length not 512; it is not legal in idle state"}
+  {"line":3,"told":"CMD13 00000000 R1 00000900","finding":"states","any_state":true,"bounded":false,"outside_before":false,"text":"in any state"}
+  {"line":3,"told":"CMD13 00000000","finding":"any_state","any_state":true,"bounded":false,"outside_before":false,"text":"before it the card may be in any state"}
+  {"line":4,"told":"CMD0 00000000 -","finding":"states","any_state":false,"bounded":true,"outside_before":false,"text":"in tran or data"}
+  {"line":4,"told":"CMD0 00000000","finding":"anew","any_state":false,"bounded":true,"outside_before":false,"text":"the audit begins anew"}
   {"line":4,"told":"","finding":"end","text":"in idle"}
-  {"lines":4,"reckless":1,"unanswered":0,"lengths":0,"beyond":0,"outside":0,"not_followed":1,"left_out":0}
+  {"lines":4,"reckless":1,"unanswered":0,"lengths":0,"beyond":0,"outside":0,"not_followed":0,"left_out":0}
   [1]

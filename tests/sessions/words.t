@@ -79,10 +79,10 @@ Which word is wrong.
   usage: 0x40 is no INDEX (from 0 to 63): sdv frame INDEX ARG
   usage: 0 is one word too many: sdv frame INDEX ARG
   usage: --out stands twice: sdv try SCRIPT CARD IMAGE [SCHEDULE] [--in FILE] [--out FILE] [--each] [--card CARD].. [--only wrong] [--json] [--lines]
-  usage: --svg stands twice: sdv audit KIND TRACE [--json] [--annotate] [--script SCRIPT] [--registers FILE] [--svg]
-  usage: --json and --svg exclude each other: sdv audit KIND TRACE [--json] [--annotate] [--script SCRIPT] [--registers FILE] [--svg]
-  usage: --json stands twice: sdv audit KIND TRACE [--json] [--annotate] [--script SCRIPT] [--registers FILE] [--svg]
-  usage: TRACE is missing: sdv audit KIND TRACE [--json] [--annotate] [--script SCRIPT] [--registers FILE] [--svg]
+  usage: --svg stands twice: sdv audit KIND TRACE [--json] [--annotate] [--running] [--script SCRIPT] [--registers FILE] [--svg]
+  usage: --json and --svg exclude each other: sdv audit KIND TRACE [--json] [--annotate] [--running] [--script SCRIPT] [--registers FILE] [--svg]
+  usage: --json stands twice: sdv audit KIND TRACE [--json] [--annotate] [--running] [--script SCRIPT] [--registers FILE] [--svg]
+  usage: TRACE is missing: sdv audit KIND TRACE [--json] [--annotate] [--running] [--script SCRIPT] [--registers FILE] [--svg]
   usage: --in needs FILE: sdv run SCRIPT CERT CARD IMAGE [SCHEDULE] [--in FILE] [--out FILE] [--registers FILE]
   [2]
   $ for words in "frame 0x3f 0x100000000" "explain --no-fault=x a" "verify a --json=x" "try a b c --in=e --in f" "try a b c d e --in=e"; do

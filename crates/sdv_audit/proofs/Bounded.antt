@@ -25,12 +25,12 @@ use Rattle.sdv_card.specs.Shapes.{view, pair_code, IsPair}
 use Rattle.sdv_card.specs.Profile.{told_blocks}
 use Rattle.sdv_card.proofs.Digits.{digits_law}
 use Rattle.sdv_audit.specs.declared.line.TraceLine.{TraceLine}
-use Rattle.sdv_audit.specs.declared.line.TraceLine.TheVariants.{Exchange, BlocksIn, RegisterIn, BlocksOut, Wait, Lines, End}
+use Rattle.sdv_audit.specs.declared.line.TraceLine.TheVariants.{Exchange, BlocksIn, RegisterIn, BlocksOut, Wait, Lines, Running, End}
 use Rattle.sdv_audit.specs.declared.known.HostKnown.{HostKnown}
 use Rattle.sdv_audit.specs.declared.turn.Told.{Told}
 use Rattle.sdv_audit.specs.declared.turn.Deed.TheVariants.{Known, Begins}
 use Rattle.sdv_audit.specs.declared.turn.Turn.{Turn}
-use Rattle.sdv_audit.specs.declared.turn.Turn.TheVariants.{Ends, Outside, Uses, OtherLength, Does}
+use Rattle.sdv_audit.specs.declared.turn.Turn.TheVariants.{Ends, Outside, Uses, Resumes, OtherLength, Does}
 use Rattle.sdv_audit.specs.Standing.{known_of, turn_behind, shape_of, Covers}
 use Rattle.sdv_audit.specs.Lived.{block_named, names_block}
 use Rattle.sdv_audit.specs.Beyond.{if_readable, readable_blocks, told_capacity, beyond_capacity, beyond_by, blocks_for_sure, is_beyond, IsAskOf, Sends, NoneInBounds}
@@ -128,6 +128,7 @@ beyond_there k known (Does deed) command answer code e = e
 beyond_there k known Ends command answer code e = absurd (let f : false ≡ true = e in cc)
 beyond_there k known Outside command answer code e = absurd (let f : false ≡ true = e in cc)
 beyond_there k known (Uses width) command answer code e = absurd (let f : false ≡ true = e in cc)
+beyond_there k known (Resumes rca lines) command answer code e = absurd (let f : false ≡ true = e in cc)
 beyond_there k known (OtherLength due) command answer code e = absurd (let f : false ≡ true = e in cc)
 
 line_beyond : (k : Kind) (known : HostKnown) (turn : Turn) (line : TraceLine) (ask : Ask) (c : Card) (h : Host) (position argument : ℕ) → StillKnown k known c h →
@@ -142,6 +143,7 @@ line_beyond k known turn (RegisterIn count end) ask c h position argument i tell
 line_beyond k known turn (BlocksOut count end) ask c h position argument i tells is sent e within = sent
 line_beyond k known turn (Wait end) ask c h position argument i tells is sent e within = sent
 line_beyond k known turn (Lines width) ask c h position argument i tells is sent e within = sent
+line_beyond k known turn (Running rca lines) ask c h position argument i tells is sent e within = sent
 line_beyond k known turn End ask c h position argument i tells is sent e within = sent
 
 pub none_in_bounds : (k : Kind) (past : List Told) (told : Told) (shapes : List Shape) → Covers k past shapes →

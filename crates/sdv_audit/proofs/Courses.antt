@@ -1,6 +1,6 @@
 -- The course of an audit, computed, is where an audit stands; and what is found there holds.
-use Rattle.std.proofs.Common.{◌≡◌, ℕ, ◌+◌, ◌<◌, ◌≤◌, ◌==◌, ◌&&◌, refl, ap, subst, sym, ◌∙◌, Bool, true, false, not, List, [], ◌∷◌, ◌++◌, length, take, get_or, ◌⊎◌, inl, inr, ◌↔◌, Option, Some, None, map, eqb-true, eq-eqb, arith, if◌then◌else◌}
-use Rattle.std.specs.Prelude.{nat_lt, IsTrue, IfOk, OnOk, MatchOption, is_none, Result, Ok as ResultOk, Err as ResultErr}
+use Rattle.std.proofs.Common.{◌≡◌, ℕ, ◌+◌, ◌<◌, ◌≤◌, ◌==◌, ◌&&◌, ◌||◌, refl, ap, subst, sym, ◌∙◌, Bool, true, false, not, List, [], ◌∷◌, ◌++◌, length, take, get_or, ◌⊎◌, inl, inr, ◌↔◌, Option, Some, None, map, eqb-true, eq-eqb, arith, if◌then◌else◌}
+use Rattle.std.specs.Prelude.{nat_lt, IsTrue, IfOk, IfSome, OnOk, MatchOption, is_none, Result, Ok as ResultOk, Err as ResultErr}
 use Rattle.sdv_audit.specs.declared.fault.AuditFault.{AuditFault}
 use Rattle.std.proofs.lemmas.Bool.{ltb-false, ltb-true, not-false}
 use Rattle.sdv_registers.specs.declared.kind.Kind.{Kind}
@@ -21,16 +21,18 @@ use Rattle.sdv_audit.specs.declared.known.HostKnown.{HostKnown}
 use Rattle.sdv_audit.specs.declared.turn.Told.{Told}
 use Rattle.sdv_audit.specs.declared.turn.Deed.{Deed}
 use Rattle.sdv_audit.specs.declared.turn.Turn.{Turn}
-use Rattle.sdv_audit.specs.declared.turn.Turn.TheVariants.{Ends, Outside, Uses, OtherLength, Does}
+use Rattle.sdv_audit.specs.declared.turn.Turn.TheVariants.{Ends, Outside, Uses, Resumes, OtherLength, Does}
 use Rattle.sdv_audit.specs.declared.audit.Audit.{Audit}
 use Rattle.sdv_audit.specs.declared.audit.Findings.{Findings}
 use Rattle.sdv_audit.specs.Turns.{turn_of, known_after, line_seen, event_at, is_expected}
-use Rattle.sdv_audit.specs.Carried.{has_address, pending_at, Fits, CarriedFrom, Carried, CarriedBy, WithLines, Follows}
+use Rattle.sdv_audit.specs.Carried.{AnyBehind, has_address, pending_at, Fits, CarriedFrom, Carried, CarriedBy, WithLines, Follows}
 use Rattle.sdv_audit.specs.Standing.{shape_with}
-use Rattle.sdv_audit.specs.Audited.{is_empty, AllLegal, IsIllegalAt, AllBeyond, is_unanswered, is_reset, restarts, lines_told}
+use Rattle.sdv_audit.specs.Audited.{is_empty, AllLegal, IsIllegalAt, AllBeyond, is_unanswered, is_reset, restarts, lines_told, address_told, resumes, resumes_by}
+use Rattle.sdv_audit.specs.AnyShape.{any_shapes}
+use Rattle.sdv_card.specs.declared.state.Width.{Width}
 use Rattle.sdv_audit.specs.Beyond.{is_beyond}
 use Rattle.sdv_audit.specs.Lived.{turn_within}
-use Rattle.sdv_audit.specs.Course.{Course, IsAt, turn_at, goes_on, restarts_at, goes_anew, course_after, begun, found_on, found_anew, found_at, least_illegal, seen_sort, SeenParts, seen_parts, same_bit, same_flag, same_parts, same_seen, outcome_fits, shape_if, shapes_if, led_by, led_to, shapes_after, lesser_if, least, IsLeast, SameMembers}
+use Rattle.sdv_audit.specs.Course.{Course, IsAt, FindsOn, FindsAgain, FindsHere, Finds, GoesOn, GoesAgain, GoesHere, turn_at, goes_on, is_resumed, any_state, restarts_at, resumes_at, goes_anew, goes_again, course_here, course_after, begun, found_on, found_again, found_here, found_anew, found_at, reckless_at, is_forbidden, seen_sort, SeenParts, seen_parts, same_bit, same_flag, same_parts, same_seen, outcome_fits, shape_if, shapes_if, led_by, led_to, shapes_after, lesser_if, least, IsLeast, SameMembers}
 
 -- THE SAME IS SEEN
 
@@ -194,6 +196,28 @@ so_carried true k deed line address xs ys to has c =
     May-each (led_to k deed line address) x.source (has x.source x.among) (so_led k (event_at deed x.source.0) line address x.source to x.from)
 so_carried false k deed line address xs ys to has c = absurd c
 
+-- from any state, where there is a shape
+some_member : (ys : List Shape) (s : Shape) → May ys s → not (is_empty ys) ≡ true
+some_member [] s m = absurd m.one
+some_member (y ∷ ys) s m = refl
+
+any_behind : (k : Kind) (lines : Width) (xs ys : List Shape) (s : Shape) → SameMembers xs ys → not (is_empty ys) ≡ true → May (any_shapes k lines) s →
+    AnyBehind k lines xs s
+any_behind k lines xs [] s same e m = absurd (let f : false ≡ true = e in cc)
+any_behind k lines xs (y ∷ ys) s same e m = record { source = y; among = (same y).1 (here refl); is_any = m }
+
+pub none_behind : (k : Kind) (lines : Width) (xs : List Shape) (s : Shape) → is_empty xs ≡ true → May [] s ↔ AnyBehind k lines xs s
+none_behind k lines [] s e = ((λ m. absurd m.one), (λ x. absurd x.among.one))
+none_behind k lines (y ∷ xs) s e = absurd (let f : false ≡ true = e in cc)
+
+pub all_behind : (k : Kind) (lines : Width) (xs all : List Shape) (s : Shape) → is_empty xs ≡ false → all ≡ any_shapes k lines →
+    May all s ↔ AnyBehind k lines xs s
+all_behind k lines [] all s e is = absurd (let f : true ≡ false = e in cc)
+all_behind k lines (y ∷ xs) all s e is = (
+  (λ m. record { source = y; among = here refl; is_any = subst (λ v. May v s) is m }),
+  (λ x. subst (λ v. May v s) (sym is) x.is_any),
+)
+
 -- the shapes that are computed from others with the same members are those that follow
 pub after_follows : (k : Kind) (turn : Turn) (line : TraceLine) (known : HostKnown) (xs ys : List Shape) (s : Shape) → SameMembers xs ys →
     May (shapes_after k turn line known ys) s → Follows k turn line known xs s
@@ -202,6 +226,9 @@ after_follows k (Does deed) line known xs ys s same m =
 after_follows k (Uses width) line known xs ys s same m =
     let r = map_cases (λ t. with_lines_shown t width) ys s m.one in
     record { source = r.0; among = (same r.0).1 r.1; leads = r.2 }
+after_follows k (Resumes rca lines) line known xs ys s same m =
+    let x = in_shapes_if (not (is_empty ys)) (any_shapes k lines) s m in
+    any_behind k lines xs ys s same x.0 x.1
 after_follows k (OtherLength due) line known xs ys s same m = m.one
 after_follows k Ends line known xs ys s same m = (same s).1 m
 after_follows k Outside line known xs ys s same m = (same s).1 m
@@ -213,6 +240,9 @@ follows_after k (Does deed) line known xs ys s same f =
 follows_after k (Uses width) line known xs ys s same f =
     let x : WithLines width xs s = f in
     subst (λ v. May (map (λ t. with_lines_shown t width) ys) v) x.leads (May-map (λ t. with_lines_shown t width) ((same x.source).0 x.among))
+follows_after k (Resumes rca lines) line known xs ys s same f =
+    let x : AnyBehind k lines xs s = f in
+    to_shapes_if (not (is_empty ys)) (any_shapes k lines) s (some_member ys x.source ((same x.source).0 x.among)) x.is_any
 follows_after k (OtherLength due) line known xs ys s same f = absurd f
 follows_after k Ends line known xs ys s same f = (same s).0 f
 follows_after k Outside line known xs ys s same f = (same s).0 f
@@ -307,7 +337,7 @@ pub all_true : (p : Shape → Bool) (xs : List Shape) → ((s : Shape) → May x
 all_true p [] f = refl
 all_true p (x ∷ xs) f = both (p x) (all p xs) (f x (here refl)) (all_true p xs (λ s m. f s (there m)))
 
-alike : (a b : Bool) → (a ≡ true → b ≡ true) → (b ≡ true → a ≡ true) → a ≡ b
+pub alike : (a b : Bool) → (a ≡ true → b ≡ true) → (b ≡ true → a ≡ true) → a ≡ b
 alike true b f g = sym (f refl)
 alike false true f g = g refl
 alike false false f g = refl
@@ -341,26 +371,116 @@ bounded_then b old p xs slice e f decides =
 pub bounded_else : (b old rest : Bool) → old ≡ false → b ≡ false → b ≡ (old && rest)
 bounded_else b old rest e f = f ∙ ap (λ v. v && rest) (sym e)
 
+-- WHERE THE CARD COULD BE IN ANY STATE
+
+-- what is found, from what is decided
+pub reckless_so : (running : Bool) (k : Kind) (deed : Deed) (xs ys : List Shape) (o : Option Shape) (fb : Bool) → SameMembers xs ys →
+    (IsTrue fb ↔ ((s : Shape) → May xs s → not (legal_code k s.0 (event_at deed s.0)) ≡ true)) →
+    IsLeast (λ s. not (legal_code k s.0 (event_at deed s.0))) xs o →
+    (if running && not fb then None else o) ≡ reckless_at running k (Does deed) ys
+reckless_so running k deed xs ys o fb same decides least_one =
+    let test : Shape → Bool = λ s. not (legal_code k s.0 (event_at deed s.0)) in
+    ap (λ v. if running && not v then None else o) (all_decided fb test xs decides ∙ all_same test xs ys same)
+    ∙ ap (λ v. if running && not (all test ys) then None else v) (least_same test xs ys o (least test ys) same least_one (least_is test ys))
+
+-- a shape is named only if the event is legal at none
+pub forbidden_by : (running fb : Bool) (o : Option Shape) → IfSome (if running && not fb then None else o) (λ s. running ≡ true → fb ≡ true)
+forbidden_by true true None = tt
+forbidden_by true true (Some s) = λ e. refl
+forbidden_by true false o = tt
+forbidden_by false fb None = tt
+forbidden_by false fb (Some s) = λ e. absurd (let f : false ≡ true = e in cc)
+
+pub left_by : (running fb : Bool) (o : Option Shape) (P : Type 0) (Q : Shape → Type 0) → MatchOption o P Q →
+    MatchOption (if running && not fb then None else o) (running ≡ false → P) Q
+left_by true true None P Q m = λ e. m
+left_by true true (Some s) P Q m = m
+left_by true false o P Q m = λ e. absurd (let f : true ≡ false = e in cc)
+left_by false fb None P Q m = λ e. m
+left_by false fb (Some s) P Q m = m
+
+pub if_some : (o : Option Shape) (P Q : Shape → Type 0) → IfSome o P → ((s : Shape) → P s → Q s) → IfSome o Q
+if_some None P Q x f = tt
+if_some (Some s) P Q x f = f s x
+
+none_led : (k : Kind) (deed : Deed) (line : TraceLine) (address : Bool) (s : Shape) (b : Bool) → legal_code k s.0 (event_at deed s.0) ≡ b → not b ≡ true →
+    led_to k deed line address s ≡ []
+none_led k deed line address s true e f = absurd (let g : false ≡ true = f in cc)
+none_led k deed line address s false e f =
+    ap (λ v. shapes_if v (each (outcomes_code k s.0 (event_at deed s.0))
+    (λ o. shape_if (outcome_fits k (event_at deed s.0) line address s.0 o) o.shape))) e
+
+each_none : (k : Kind) (deed : Deed) (line : TraceLine) (address : Bool) (xs : List Shape) → all (λ s. not (legal_code k s.0 (event_at deed s.0))) xs ≡ true →
+    each xs (led_to k deed line address) ≡ []
+each_none k deed line address [] e = refl
+each_none k deed line address (s ∷ xs) e =
+    ap (λ v. v ++ each xs (led_to k deed line address))
+    (none_led k deed line address s (legal_code k s.0 (event_at deed s.0)) refl
+    (and_left (not (legal_code k s.0 (event_at deed s.0))) (all (λ t. not (legal_code k t.0 (event_at deed t.0))) xs) e))
+    ∙ each_none k deed line address xs (and_right (not (legal_code k s.0 (event_at deed s.0))) (all (λ t. not (legal_code k t.0 (event_at deed t.0))) xs) e)
+
+none_if : (b : Bool) → is_empty (shapes_if b []) ≡ true
+none_if true = refl
+none_if false = refl
+
+-- then no shape is left
+pub forbidden_left : (k : Kind) (turn : Turn) (line : TraceLine) (known : HostKnown) (xs : List Shape) → is_forbidden k turn xs ≡ true →
+    is_empty (shapes_after k turn line known xs) ≡ true
+forbidden_left k (Does deed) line known xs e =
+    ap (λ v. is_empty (shapes_if (is_expected k known.csd deed line) v)) (each_none k deed line (has_address known) xs e)
+    ∙ none_if (is_expected k known.csd deed line)
+forbidden_left k (Uses width) line known xs e = absurd (let f : false ≡ true = e in cc)
+forbidden_left k (Resumes rca lines) line known xs e = absurd (let f : false ≡ true = e in cc)
+forbidden_left k (OtherLength due) line known xs e = absurd (let f : false ≡ true = e in cc)
+forbidden_left k Ends line known xs e = absurd (let f : false ≡ true = e in cc)
+forbidden_left k Outside line known xs e = absurd (let f : false ≡ true = e in cc)
+
+-- no shape comes of none
+pub none_after : (k : Kind) (turn : Turn) (line : TraceLine) (known : HostKnown) → is_empty (shapes_after k turn line known []) ≡ true
+none_after k (Does deed) line known = none_if (is_expected k known.csd deed line)
+none_after k (Uses width) line known = refl
+none_after k (Resumes rca lines) line known = refl
+none_after k (OtherLength due) line known = refl
+none_after k Ends line known = refl
+none_after k Outside line known = refl
+
+pub none_reckless : (running : Bool) (k : Kind) (turn : Turn) → reckless_at running k turn [] ≡ None
+none_reckless true k (Does deed) = refl
+none_reckless true k (Uses width) = refl
+none_reckless true k (Resumes rca lines) = refl
+none_reckless true k (OtherLength due) = refl
+none_reckless true k Ends = refl
+none_reckless true k Outside = refl
+none_reckless false k (Does deed) = refl
+none_reckless false k (Uses width) = refl
+none_reckless false k (Resumes rca lines) = refl
+none_reckless false k (OtherLength due) = refl
+none_reckless false k Ends = refl
+none_reckless false k Outside = refl
+
 -- ONE LINE FURTHER
 
 -- findings with the same fields
 findings_are : (a b : Findings) → a.turn ≡ b.turn → a.reckless ≡ b.reckless → a.unanswered ≡ b.unanswered → a.beyond ≡ b.beyond →
-    a.restarted ≡ b.restarted → a ≡ b
-findings_are a b t r u y s =
+    a.restarted ≡ b.restarted → a.resumed ≡ b.resumed → a ≡ b
+findings_are a b t r u y s z =
     ap (λ v. record a { turn = v }) t ∙ (ap (λ v. record a { turn = b.turn; reckless = v }) r
     ∙ (ap (λ v. record a { turn = b.turn; reckless = b.reckless; unanswered = v }) u
     ∙ (ap (λ v. record a { turn = b.turn; reckless = b.reckless; unanswered = b.unanswered; beyond = v }) y
-    ∙ ap (λ v. record a { turn = b.turn; reckless = b.reckless; unanswered = b.unanswered; beyond = b.beyond; restarted = v }) s)))
+    ∙ (ap (λ v. record a { turn = b.turn; reckless = b.reckless; unanswered = b.unanswered; beyond = b.beyond; restarted = v }) s
+    ∙ ap (λ v. record b { resumed = v }) z))))
 
 -- what an audit did at a line
 pub record Advanced (old new : Audit) (told : Told) (found : Findings) : Type 0 where
   pub turn : found.turn ≡ turn_of old.kind old.known told
   pub known : new.known ≡ known_after old.kind found.turn told.line old.known
   pub shapes : (s : Shape) → May new.shapes.items s ↔ Follows old.kind found.turn told.line old.known old.shapes.items s
-  pub reckless : (shapes : List Shape) → SameMembers old.shapes.items shapes → found.reckless ≡ least_illegal old.kind found.turn shapes
+  pub reckless : (shapes : List Shape) → SameMembers old.shapes.items shapes → found.reckless ≡ reckless_at old.running old.kind found.turn shapes
   pub unanswered : found.unanswered ≡ is_unanswered found.reckless old.shapes.items new.shapes.items
   pub beyond : IsTrue found.beyond ↔ ((is_empty old.shapes.items ≡ false) × AllBeyond old found.turn told.line)
   pub restarted : found.restarted ≡ false
+  pub resumed : found.resumed ≡ false
+  pub running : new.running ≡ (old.running || is_resumed found.turn)
   pub bounded : new.bounded ≡ (old.bounded && all (λ s. turn_within old.kind found.turn told.line s.0) old.shapes.items)
 
 pub turn_is : (old new : Audit) (told : Told) (found : Findings) (c : Course) → Advanced old new told found → IsAt old c → found.turn ≡ turn_at old.kind told c
@@ -385,6 +505,7 @@ is_at_next old new told found c a at = record {
   bounded = a.bounded ∙ (ap (λ v. v && all (λ s. turn_within old.kind found.turn told.line s.0) old.shapes.items) at.bounded
       ∙ (ap (λ v. c.bounded && all (λ s. turn_within old.kind v told.line s.0) old.shapes.items) (turn_is old new told found c a at)
       ∙ ap (λ v. c.bounded && v) (all_same (λ s. turn_within old.kind (turn_at old.kind told c) told.line s.0) old.shapes.items c.shapes at.shapes)));
+  running = a.running ∙ (ap (λ v. v || is_resumed found.turn) at.running ∙ ap (λ v. c.running || is_resumed v) (turn_is old new told found c a at));
 }
 
 unanswered_same : (o p : Option Shape) (before before' after after' : List Shape) → o ≡ p → is_empty before ≡ is_empty before' → is_empty after ≡ is_empty after' →
@@ -396,21 +517,29 @@ unanswered_same o p before before' after after' e f g =
 pub found_so : (old new : Audit) (told : Told) (found : Findings) (c : Course) → Advanced old new told found → IsAt old c → found ≡ found_on old.kind told c
 found_so old new told found c a at =
     let turn : found.turn ≡ turn_at old.kind told c = turn_is old new told found c a at in
-    let reckless : found.reckless ≡ least_illegal old.kind (turn_at old.kind told c) c.shapes =
-    a.reckless c.shapes at.shapes ∙ ap (λ v. least_illegal old.kind v c.shapes) turn in
+    let reckless : found.reckless ≡ reckless_at c.running old.kind (turn_at old.kind told c) c.shapes =
+    a.reckless c.shapes at.shapes
+    ∙ (ap (λ v. reckless_at v old.kind found.turn c.shapes) at.running ∙ ap (λ v. reckless_at c.running old.kind v c.shapes) turn) in
     findings_are found (found_on old.kind told c) turn reckless
-    (a.unanswered ∙ unanswered_same found.reckless (least_illegal old.kind (turn_at old.kind told c) c.shapes) old.shapes.items c.shapes
+    (a.unanswered ∙ unanswered_same found.reckless (reckless_at c.running old.kind (turn_at old.kind told c) c.shapes) old.shapes.items c.shapes
     new.shapes.items (goes_on old.kind told c).shapes reckless (empty_same old.shapes.items c.shapes at.shapes)
     (empty_same new.shapes.items (goes_on old.kind told c).shapes (shapes_are old new told found c a at)))
     (some_and_all found.beyond (λ s. is_beyond old.kind old.known found.turn told.line s.0) (λ s. is_beyond old.kind c.known (turn_at old.kind told c) told.line s.0)
     old.shapes.items c.shapes at.shapes
     (λ s. ap (λ v. is_beyond old.kind v found.turn told.line s.0) at.known ∙ ap (λ v. is_beyond old.kind c.known v told.line s.0) turn) a.beyond)
-    a.restarted
+    a.restarted a.resumed
 
 pub restarts_same : (audit : Audit) (told : Told) (c : Course) → IsAt audit c → restarts audit told ≡ restarts_at audit.kind told c
 restarts_same audit told c at =
-    ap (λ v. v && is_reset (turn_of audit.kind audit.known told)) (empty_same audit.shapes.items c.shapes at.shapes)
-    ∙ ap (λ v. is_empty c.shapes && is_reset (turn_of audit.kind v told)) at.known
+    ap (λ v. (v || audit.running) && is_reset (turn_of audit.kind audit.known told)) (empty_same audit.shapes.items c.shapes at.shapes)
+    ∙ (ap (λ v. (is_empty c.shapes || v) && is_reset (turn_of audit.kind audit.known told)) at.running
+    ∙ ap (λ v. (is_empty c.shapes || c.running) && is_reset (turn_of audit.kind v told)) at.known)
+
+pub resumes_same : (audit : Audit) (told : Told) (c : Course) → IsAt audit c → resumes audit told ≡ resumes_at told c
+resumes_same audit told c at =
+    ap (λ v. resumes_by v audit.running told.line audit.known) (empty_same audit.shapes.items c.shapes at.shapes)
+    ∙ (ap (λ v. resumes_by (is_empty c.shapes) v told.line audit.known) at.running
+    ∙ ap (λ v. resumes_by (is_empty c.shapes) c.running told.line v) at.known)
 
 -- WHERE AN AUDIT BEGINS ANEW, or does not
 
@@ -426,31 +555,73 @@ no_restart : (old : Audit) (told : Told) (c : Course) → restarts old told ≡ 
 no_restart old told c e at = sym (restarts_same old told c at) ∙ e
 
 pub found_there : (old : Audit) (told : Told) (r : Result Findings AuditFault) → restarts old told ≡ false →
-    IfOk r (λ found. (c : Course) → IsAt old c → found ≡ found_on old.kind told c) → IfOk r (λ found. (c : Course) → IsAt old c → found ≡ found_at old.kind told c)
+    IfOk r (FindsHere old told) → IfOk r (Finds old told)
 found_there old told (ResultOk found) e f = λ c at.
-    on_or_anew (restarts_at old.kind told c) (found_anew old.kind told c) (found_on old.kind told c) found (no_restart old told c e at) (f c at)
+    on_or_anew (restarts_at old.kind told c) (found_anew old.kind told c) (found_here old.kind told c) found (no_restart old told c e at) (f c at)
 found_there old told (ResultErr fault) e f = tt
 
 pub course_there : (old new : Audit) (told : Told) (r : Result Findings AuditFault) → restarts old told ≡ false →
-    OnOk r ((c : Course) → IsAt old c → IsAt new (goes_on old.kind told c)) → OnOk r ((c : Course) → IsAt old c → IsAt new (course_after old.kind told c))
+    OnOk r (GoesHere old new told) → OnOk r ((c : Course) → IsAt old c → IsAt new (course_after old.kind told c))
 course_there old new told (ResultOk found) e f = λ c at.
-    subst (IsAt new) (on_or_anew (restarts_at old.kind told c) (goes_anew old.kind told c) (goes_on old.kind told c) (goes_on old.kind told c)
+    subst (IsAt new) (on_or_anew (restarts_at old.kind told c) (goes_anew old.kind told c) (course_here old.kind told c) (course_here old.kind told c)
     (no_restart old told c e at) refl) (f c at)
 course_there old new told (ResultErr fault) e f = tt
+
+-- WHERE IT GOES ON FROM ANY STATE, or does not
+
+no_resuming : (old : Audit) (told : Told) (c : Course) → resumes old told ≡ false → IsAt old c → resumes_at told c ≡ false
+no_resuming old told c e at = sym (resumes_same old told c at) ∙ e
+
+pub found_on_here : (old : Audit) (told : Told) (r : Result Findings AuditFault) → resumes old told ≡ false →
+    IfOk r (FindsOn old told) → IfOk r (FindsHere old told)
+found_on_here old told (ResultOk found) e f = λ c at.
+    on_or_anew (resumes_at told c) (found_again old.kind told c) (found_on old.kind told c) found (no_resuming old told c e at) (f c at)
+found_on_here old told (ResultErr fault) e f = tt
+
+pub course_on_here : (old new : Audit) (told : Told) (r : Result Findings AuditFault) → resumes old told ≡ false →
+    OnOk r (GoesOn old new told) → OnOk r (GoesHere old new told)
+course_on_here old new told (ResultOk found) e f = λ c at.
+    subst (IsAt new) (on_or_anew (resumes_at told c) (goes_again old.kind told c) (goes_on old.kind told c) (goes_on old.kind told c)
+    (no_resuming old told c e at) refl) (f c at)
+course_on_here old new told (ResultErr fault) e f = tt
+
+pub found_again_here : (old : Audit) (told : Told) (found : Findings) → resumes old told ≡ true → FindsAgain old told found → FindsHere old told found
+found_again_here old told found e f = λ c at.
+    anew_or_on (resumes_at told c) (found_again old.kind told c) (found_on old.kind told c) found (sym (resumes_same old told c at) ∙ e) (f c at)
+
+pub course_again_here : (old new : Audit) (told : Told) → resumes old told ≡ true → GoesAgain old new told → GoesHere old new told
+course_again_here old new told e f = λ c at.
+    subst (IsAt new) (anew_or_on (resumes_at told c) (goes_again old.kind told c) (goes_on old.kind told c) (goes_again old.kind told c)
+    (sym (resumes_same old told c at) ∙ e) refl) (f c at)
+
+-- an audit of a card in any state, by the kind, the address and the lines that it was given
+pub again_at : (a : Audit) (i k : Kind) (told : Told) (known : HostKnown) (c : Course) →
+    IsAt a (goes_on i told (any_state k (address_told told.line known) known.lines)) → i ≡ k → known ≡ c.known → IsAt a (goes_again k told c)
+again_at a i k told known c at ik e =
+    subst (λ v. IsAt a (goes_on k told (any_state k (address_told told.line v) v.lines))) e
+    (subst (λ v. IsAt a (goes_on v told (any_state k (address_told told.line known) known.lines))) ik at)
+
+pub found_again_at : (found : Findings) (i k : Kind) (told : Told) (known : HostKnown) (c : Course) →
+    found ≡ found_on i told (any_state k (address_told told.line known) known.lines) → i ≡ k → known ≡ c.known →
+    record found { resumed = true } ≡ found_again k told c
+found_again_at found i k told known c is ik e =
+    ap (λ (v : Findings). record v { resumed = true }) (is
+    ∙ (ap (λ v. found_on v told (any_state k (address_told told.line known) known.lines)) ik
+    ∙ ap (λ v. found_on k told (any_state k (address_told told.line v) v.lines)) e))
 
 pub course_anew : (old new : Audit) (told : Told) (c : Course) → restarts old told ≡ true → IsAt old c → IsAt new (goes_anew old.kind told c) →
     IsAt new (course_after old.kind told c)
 course_anew old new told c e at anew =
-    subst (IsAt new) (anew_or_on (restarts_at old.kind told c) (goes_anew old.kind told c) (goes_on old.kind told c) (goes_anew old.kind told c)
+    subst (IsAt new) (anew_or_on (restarts_at old.kind told c) (goes_anew old.kind told c) (course_here old.kind told c) (goes_anew old.kind told c)
     (sym (restarts_same old told c at) ∙ e) refl) anew
 
 pub found_anew_so : (old new : Audit) (told : Told) (found : Findings) (c : Course) → restarts old told ≡ true → IsAt old c → IsAt new (goes_anew old.kind told c) →
     found.turn ≡ turn_of old.kind old.known told → found.reckless ≡ None → found.unanswered ≡ is_empty new.shapes.items → found.beyond ≡ false →
-    found.restarted ≡ true → found ≡ found_at old.kind told c
-found_anew_so old new told found c e at anew turn reckless unanswered beyond restarted =
-    anew_or_on (restarts_at old.kind told c) (found_anew old.kind told c) (found_on old.kind told c) found (sym (restarts_same old told c at) ∙ e)
+    found.restarted ≡ true → found.resumed ≡ false → found ≡ found_at old.kind told c
+found_anew_so old new told found c e at anew turn reckless unanswered beyond restarted resumed =
+    anew_or_on (restarts_at old.kind told c) (found_anew old.kind told c) (found_here old.kind told c) found (sym (restarts_same old told c at) ∙ e)
     (findings_are found (found_anew old.kind told c) (turn ∙ ap (λ v. turn_of old.kind v told) at.known) reckless
-    (unanswered ∙ empty_same new.shapes.items (goes_anew old.kind told c).shapes anew.shapes) beyond restarted)
+    (unanswered ∙ empty_same new.shapes.items (goes_anew old.kind told c).shapes anew.shapes) beyond restarted resumed)
 
 -- an audit that begins anew, by the kinds and the lines that it was given
 pub anew_at : (a : Audit) (k j i : Kind) (told : Told) (known : HostKnown) (c : Course) → IsAt a (goes_on i told (goes_on j (lines_told known.lines) begun)) →

@@ -1,5 +1,5 @@
 -- No line that is printed ends with white space, or is a comment.
-use Rattle.std.proofs.Common.{lit<, ◌≡◌, ℕ, zero, suc, ◌<◌, ◌-◌, Bool, true, false, not, ◌&&◌, ◌/◌, ◌%◌, List, [], ◌∷◌, ◌++◌, length, take, reverse, Ok, decimal, refl, sym, ap, subst, ◌∙◌, arith}
+use Rattle.std.proofs.Common.{lit<, ◌≡◌, ℕ, zero, suc, ◌-◌, Bool, true, false, not, ◌&&◌, ◌/◌, ◌%◌, List, [], ◌∷◌, ◌++◌, length, take, reverse, Ok, decimal, refl, sym, ap, subst, ◌∙◌, arith}
 use Rattle.std.specs.Prelude.{codes, slice_index}
 use Rattle.std.specs.Char.{is_ascii_whitespace}
 use Rattle.std.specs.List.{prefix_len, suffix_len}
@@ -16,7 +16,7 @@ use Rattle.sdv_card.specs.declared.state.Width.TheVariants.{One, Four, Eight}
 use Rattle.sdv_frames.specs.declared.reply.Reply.TheVariants.{R1, R2, R3, R6, R7}
 use Rattle.sdv_trace.specs.Trace.{answer_text, command_text, end_text, word_text}
 use Rattle.sdv_audit.specs.declared.line.TraceLine.{TraceLine}
-use Rattle.sdv_audit.specs.declared.line.TraceLine.TheVariants.{Exchange, BlocksIn, RegisterIn, BlocksOut, Wait, Lines, End}
+use Rattle.sdv_audit.specs.declared.line.TraceLine.TheVariants.{Exchange, BlocksIn, RegisterIn, BlocksOut, Wait, Lines, Running, End}
 use Rattle.sdv_audit.specs.declared.texts.Said.TheVariants.{Line}
 use Rattle.sdv_audit.specs.Spelling.{IsLine, IsAnswerTo, line_text}
 use Rattle.sdv_audit.specs.Texts.{is_comment, line_said, read_said, said_of, trimmed}
@@ -111,6 +111,7 @@ line_solid (Wait Late) is = record { last = 101; front = reverse (codes "WAIT la
 line_solid (Lines One) is = lines_solid 1 49 (decimal_digit 1 (lit< tt)) refl
 line_solid (Lines Four) is = lines_solid 4 52 (decimal_digit 4 (lit< tt)) refl
 line_solid (Lines Eight) is = lines_solid 8 56 (decimal_digit 8 (lit< tt)) refl
+line_solid (Running rca lines) is = absurd is
 line_solid End is = record { last = 101; front = reverse (codes "don"); is = refl; solid = refl }
 
 no_comment : (line : TraceLine) → is_comment (line_text line) ≡ false
@@ -121,6 +122,7 @@ no_comment (BlocksOut count end) = refl
 no_comment (Wait Over) = refl
 no_comment (Wait Late) = refl
 no_comment (Lines width) = refl
+no_comment (Running rca lines) = refl
 no_comment End = refl
 
 -- what is printed says the line

@@ -4,6 +4,7 @@ pub mod Counts
 pub mod Possibles
 pub mod Meant
 pub mod Sound
+pub mod AnyShapes
 pub mod Audits
 pub mod Living
 pub mod Bounded

@@ -43,17 +43,17 @@ use Rattle.sdv_outcomes.proofs.HistoryRuns.{set_code}
 use Rattle.sdv_outcomes.proofs.RunHistories.{set_pair}
 use Rattle.sdv_outcomes.proofs.StartRuns.{some_card_runs, illegal_shapes_are_real}
 use Rattle.sdv_audit.specs.declared.line.TraceLine.{TraceLine}
-use Rattle.sdv_audit.specs.declared.line.TraceLine.TheVariants.{Exchange, BlocksIn, RegisterIn, BlocksOut, Wait, Lines, End}
+use Rattle.sdv_audit.specs.declared.line.TraceLine.TheVariants.{Exchange, BlocksIn, RegisterIn, BlocksOut, Wait, Lines, Running, End}
 use Rattle.sdv_audit.specs.declared.known.HostKnown.{HostKnown}
 use Rattle.sdv_audit.specs.declared.turn.Told.{Told}
 use Rattle.sdv_audit.specs.declared.turn.Deed.{Deed}
 use Rattle.sdv_audit.specs.declared.turn.Deed.TheVariants.{Known, Begins}
 use Rattle.sdv_audit.specs.declared.turn.Turn.{Turn}
-use Rattle.sdv_audit.specs.declared.turn.Turn.TheVariants.{Ends, Outside, Uses, OtherLength, Does}
+use Rattle.sdv_audit.specs.declared.turn.Turn.TheVariants.{Ends, Outside, Uses, Resumes, OtherLength, Does}
 use Rattle.sdv_audit.specs.Known.{announced_told, known_after_order}
 use Rattle.sdv_audit.specs.Turns.{begins, is_count, ask_told, transfer_ask, event_at, turn_of_ask, turn_of_phase, turn_of_line, known_after, line_seen, is_expected}
 use Rattle.sdv_audit.proofs.Counts.{transfer_order, order_is, order_counted, never_legal, carried_with}
-use Rattle.sdv_audit.specs.Carried.{has_address, pending_at, CarriedFrom, Carried, CarriedBy, WithLines, Follows}
+use Rattle.sdv_audit.specs.Carried.{AnyBehind, has_address, pending_at, CarriedFrom, Carried, CarriedBy, WithLines, Follows}
 use Rattle.sdv_audit.specs.Standing.{known_of, turn_behind, shape_with, start_set}
 use Rattle.sdv_audit.specs.Lived.{guards_told, block_named, names_block, line_block, blocks_within, line_within, deed_within, turn_within, announced_of, announced_at, announced_after, announced_in, IsAsLong, AddsEvent, Adds, Tells, Lived, RecklessIsReal, DoesRecklessly, MayAnnounce, LivedWith, LivedFor}
 
@@ -181,6 +181,7 @@ fits_line k known (RegisterIn count end) next = phase_fits k known RecvReg (Regi
 fits_line k known (BlocksOut count end) next = phase_fits k known Give (BlocksOut count end) count known.announced (λ m. m)
 fits_line k known (Wait end) next = tt
 fits_line k known (Lines width) next = lines_fit k known width (has_width k width) refl
+fits_line k known (Running rca lines) next = tt
 fits_line k known End next = tt
 
 -- where the address is none so far, it is 0
@@ -242,6 +243,7 @@ adds_none k (Uses width) line known code before entries fits adds g =
     let same : addresses_after k entries false ≡ addresses_after k before false =
     ap (λ es. addresses_after k es false) adds ∙ addresses_snoc k before false (HostSets [] (digits (code_after code before)).flags width) in
     λ e. g (sym same ∙ e)
+adds_none k (Resumes rca lines) line known code before entries fits adds g = absurd adds
 adds_none k (OtherLength due) line known code before entries fits adds g = absurd adds
 adds_none k Ends line known code before entries fits adds g = λ e. g (ap (λ es. addresses_after k es false) adds ∙ e)
 adds_none k Outside line known code before entries fits adds g = λ e. g (ap (λ es. addresses_after k es false) adds ∙ e)
@@ -546,6 +548,9 @@ lives k past told (Uses width) shapes to is lived within follows = λ n may.
     let x : WithLines width shapes to = follows in
     let l : LivedWith k past x.source n = lived x.source x.among n may in
     with_other k (told ∷ past) to (announced_in k l.lived.entries 0) n l.announced (adds_lines k past told width x.source to l.lived is x.leads)
+lives k past told (Resumes rca lines) shapes to is lived within follows =
+    let x : AnyBehind k lines shapes to = follows in
+    absurd (let f : false ≡ true = within x.source x.among in cc)
 lives k past told (OtherLength due) shapes to is lived within follows = absurd follows
 lives k past told Ends shapes to is lived within follows =
     lives_same k past told to (known_of k past).announced (λ code entries. subst (λ t. Adds k t told.line code entries entries) (sym is) refl)

@@ -33,7 +33,7 @@ use Rattle.sdv_audit.specs.declared.turn.Told.{Told}
 use Rattle.sdv_audit.specs.declared.turn.Deed.{Deed}
 use Rattle.sdv_audit.specs.declared.turn.Deed.TheVariants.{Known, Begins}
 use Rattle.sdv_audit.specs.declared.turn.Turn.{Turn}
-use Rattle.sdv_audit.specs.declared.turn.Turn.TheVariants.{Ends, Outside, Uses, OtherLength, Does}
+use Rattle.sdv_audit.specs.declared.turn.Turn.TheVariants.{Ends, Outside, Uses, Resumes, OtherLength, Does}
 use Rattle.sdv_audit.specs.Turns.{begins, count_told, is_sent, ask_with, ask_if, ask_told, is_awaited, transfer_ask, turn_of_ask, turn_of_line}
 use Rattle.sdv_audit.specs.Standing.{IsToldBy, StepTold, DeedTold, Goes, known_of, turn_behind}
 
@@ -419,6 +419,7 @@ by_turn : (k : Kind) (known : HostKnown) (line : TraceLine) (next : Option Trace
     h.rca ≡ known.rca → turn_of_line k known line next ≡ turn → Goes k turn line c h u g → GoesMeant k turn line c h u g
 by_turn k known line next (Does deed) c h u g kind rca is goes = deed_meant k known line next deed c h u g kind rca is goes
 by_turn k known line next (Uses width) c h u g kind rca is goes = goes
+by_turn k known line next (Resumes rca lines) c h u g kind rca_is is goes = goes
 by_turn k known line next (OtherLength due) c h u g kind rca is goes = goes
 by_turn k known line next Ends c h u g kind rca is goes = goes
 by_turn k known line next Outside c h u g kind rca is goes = goes

@@ -7,6 +7,7 @@ use Rattle.sdv_telling.specs.Statements.{Text}
 use Rattle.sdv_audit.specs.declared.audit.Findings.{Findings}
 use Rattle.sdv_audit.specs.declared.line.TraceLine.{TraceLine}
 use Rattle.sdv_audit.specs.declared.notes.Topic.{Topic}
+use Rattle.sdv_audit.specs.declared.style.Premises.{Premises}
 use Rattle.sdv_audit.specs.declared.style.Style.{Style}
 use Rattle.sdv_audit.specs.Notes.{HasNotes, Note, ending, is_noted, note_if, note_text, notes_at}
 use Rattle.sdv_audit.specs.Texts.{Trace}
@@ -24,21 +25,21 @@ pub from_place : (xs : List Topic) (i : ℕ) (d : Topic) → i < length xs → d
 from_place xs i d lt = drop-cons xs i d lt ∙ ap (λ n. get_or xs i d ∷ drop n xs) (sym (add-one i))
 
 -- the text has the notes on all topics but those that are left
-module _ (style : Style) (number : ℕ) (line : TraceLine) (found : Findings) (all : List Topic) where
+module _ (style : Style) (number : ℕ) (line : TraceLine) (premises : Premises) (found : Findings) (all : List Topic) where
   abbrev pub NotesBefore : (left : List Topic) → Text → Type 0
   NotesBefore left text =
-      (rest : Text) → HasNotes style (notes_at style number line found left) rest → HasNotes style (notes_at style number line found all) (text ++ rest)
+      (rest : Text) → HasNotes style (notes_at style number line premises found left) rest → HasNotes style (notes_at style number line premises found all) (text ++ rest)
 
   pub one_noted : (left : List Topic) (topic : Topic) (text new more : Text) → new ≡ text ++ more
-      → HasNotes style (note_if (is_noted style found topic) (record { number = number; line = line; topic = topic })) more
+      → HasNotes style (note_if (is_noted style found topic) (record { number = number; line = line; topic = topic; premises = premises })) more
       → NotesBefore (topic ∷ left) text → NotesBefore left new
   one_noted left topic text new more added notes before rest told =
-      subst (λ (t : Text). HasNotes style (notes_at style number line found all) t)
+      subst (λ (t : Text). HasNotes style (notes_at style number line premises found all) t)
       (sym (ap (λ (t : Text). t ++ rest) added ∙ append_assoc text more rest))
       (before (more ++ rest) (notes_more style _ _ more rest notes told))
 
-  pub all_noted : (text : Text) → NotesBefore [] text → HasNotes style (notes_at style number line found all) text
-  all_noted text before = subst (λ (t : Text). HasNotes style (notes_at style number line found all) t) (append-nil text) (before [] refl)
+  pub all_noted : (text : Text) → NotesBefore [] text → HasNotes style (notes_at style number line premises found all) text
+  all_noted text before = subst (λ (t : Text). HasNotes style (notes_at style number line premises found all) t) (append-nil text) (before [] refl)
 
 -- WRITTEN
 
@@ -49,7 +50,7 @@ pub adds_more : (style : Style) (a b : List Note) (old mid new : Option (List �
 adds_more style a b old mid new (x, h, p) (y, k, q) = (x ++ y, notes_more style a b x y h k, appends_more old mid new x y p q)
 
 -- the whole report
-pub adds_ending : (k : Kind) (style : Style) (trace : Trace) (old mid new : Option (List ℕ)) → AddsNotes style (notes k style at_start trace.lines) old mid
+pub adds_ending : (k : Kind) (style : Style) (trace : Trace) (old mid new : Option (List ℕ)) → AddsNotes style (notes k style (at_start style) trace.lines) old mid
     → AddsEnding style trace.count (tally_of k style trace.lines) mid new → AddsReport k style trace old new
 adds_ending k style trace old mid new (text, h, p) (words, q) =
     (text, words, h, appends_more old mid new text (ending style trace.count (tally_of k style trace.lines) words) p q)

@@ -21,7 +21,7 @@ use Rattle.sdv_card.specs.declared.answer.Answer.TheVariants.{Sent, TimeOut, Rep
 use Rattle.sdv_card.specs.declared.answer.DataEnd.{DataEnd}
 use Rattle.sdv_card.specs.declared.answer.DataEnd.TheVariants.{Ok as Whole, Cut}
 use Rattle.sdv_card.specs.declared.answer.WaitEnd.TheVariants.{Ok as Over, Late}
-use Rattle.sdv_audit.specs.declared.line.TraceLine.TheVariants.{Exchange, BlocksIn, RegisterIn, BlocksOut, Wait, Lines, End}
+use Rattle.sdv_audit.specs.declared.line.TraceLine.TheVariants.{Exchange, BlocksIn, RegisterIn, BlocksOut, Wait, Lines, Running, End}
 use Rattle.sdv_audit.specs.Reading.{figure, read_number, word_and, read_word, last_word, last_register, bytes_or_none, read_reply, read_answer, read_index, read_argument, read_exchange, read_data_end, read_phase, read_wait, read_lines, read_end, read_other, read_data, read_line}
 use Rattle.sdv_trace.specs.Trace.{word_text, reply_text, answer_text, end_text}
 use Rattle.sdv_audit.specs.Spelling.{IsReplyTo, IsAnswerTo, LinesAreRead}
@@ -161,4 +161,5 @@ lines_are_read (Wait Late) is = refl
 lines_are_read (Lines One) is = ap (λ (l : List ℕ). read_line (codes "LINES " ++ l)) (decimal_digit 1 (lit< tt))
 lines_are_read (Lines Four) is = ap (λ (l : List ℕ). read_line (codes "LINES " ++ l)) (decimal_digit 4 (lit< tt))
 lines_are_read (Lines Eight) is = ap (λ (l : List ℕ). read_line (codes "LINES " ++ l)) (decimal_digit 8 (lit< tt))
+lines_are_read (Running rca lines) is = absurd is
 lines_are_read End is = refl

@@ -1,5 +1,5 @@
 -- The notes on a line are those of the course at which the audit stands.
-use Rattle.std.proofs.Common.{◌≡◌, ℕ, refl, ap, subst, ◌∙◌}
+use Rattle.std.proofs.Common.{◌≡◌, ℕ, Bool, refl, ap, subst, ◌∙◌}
 use Rattle.sdv_registers.specs.declared.kind.Kind.{Kind}
 use Rattle.sdv_card.specs.Lists.{May}
 use Rattle.sdv_telling.specs.Statements.{Text}
@@ -16,13 +16,24 @@ use Rattle.sdv_audit.specs.declared.fault.NoteFault.TheVariants as note_faults
 use Rattle.sdv_audit.specs.Faults.{fault_of_audit}
 use Rattle.sdv_audit.specs.declared.style.Style.{Style}
 use Rattle.sdv_audit.specs.declared.report.Report.{Report}
-use Rattle.sdv_audit.specs.Notes.{HasNotes, has_number, notes_at, tally_after}
-use Rattle.sdv_audit.specs.Report.{Progress, ReportAt, line_notes, progress_after}
+use Rattle.sdv_audit.specs.Notes.{HasNotes, has_number, notes_at, premises_of, tally_after}
+use Rattle.sdv_audit.specs.declared.style.Tally.{Tally}
+use Rattle.sdv_audit.specs.Report.{Progress, ReportAt, line_notes, premises_at, progress_after}
 
 -- the notes on a line, by what is found there
 pub notes_same : (k : Kind) (style : Style) (p : Progress) (told : Told) (found : Findings) (number : ℕ) (text : Text) →
-    found ≡ found_at k told p.course → HasNotes style (notes_at style number told.line found TOPICS) text → HasNotes style (line_notes k style p number told) text
-notes_same k style p told found number text is h = subst (λ (f : Findings). HasNotes style (notes_at style number told.line f TOPICS) text) is h
+    found ≡ found_at k told p.course → HasNotes style (notes_at style number told.line (premises_at p found) found TOPICS) text →
+    HasNotes style (line_notes k style p number told) text
+notes_same k style p told found number text is h =
+    subst (λ (f : Findings). HasNotes style (notes_at style number told.line (premises_at p f) f TOPICS) text) is h
+
+-- what a note rests on, from what the report has
+pub premises_so : (report : Report) (p : Progress) (found : Findings) (running bounded : Bool) → ReportAt report p → running ≡ report.audit.running →
+    bounded ≡ report.audit.bounded → premises_of running bounded report.tally.outside found ≡ premises_at p found
+premises_so report p found running bounded at e f =
+    ap (λ v. premises_of v bounded report.tally.outside found) (e ∙ at.course.running)
+    ∙ (ap (λ v. premises_of p.course.running v report.tally.outside found) (f ∙ at.course.bounded)
+    ∙ ap (λ (v : Tally). premises_of p.course.running p.course.bounded v.outside found) at.tally)
 
 -- the report after a line
 pub report_after : (k : Kind) (style : Style) (old new : Report) (p : Progress) (told : Told) (found : Findings) → ReportAt old p → found ≡ found_at k told p.course →

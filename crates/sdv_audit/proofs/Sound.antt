@@ -42,21 +42,22 @@ use Rattle.sdv_outcomes.specs.Histories.{is_impossible_match}
 use Rattle.sdv_outcomes.proofs.RunHistories.{match_is}
 use Rattle.sdv_outcomes.proofs.ImpossibleMatches.{impossible_matches_are_no_steps}
 use Rattle.sdv_audit.specs.declared.line.TraceLine.{TraceLine}
-use Rattle.sdv_audit.specs.declared.line.TraceLine.TheVariants.{Exchange, BlocksIn, RegisterIn, BlocksOut, Wait, Lines, End}
+use Rattle.sdv_audit.specs.declared.line.TraceLine.TheVariants.{Exchange, BlocksIn, RegisterIn, BlocksOut, Wait, Lines, Running, End}
 use Rattle.sdv_audit.specs.declared.known.HostKnown.{HostKnown}
 use Rattle.sdv_audit.specs.declared.turn.Told.{Told}
 use Rattle.sdv_audit.specs.declared.turn.Deed.{Deed}
 use Rattle.sdv_audit.specs.declared.turn.Deed.TheVariants.{Known, Begins}
 use Rattle.sdv_audit.specs.declared.turn.Turn.{Turn}
-use Rattle.sdv_audit.specs.declared.turn.Turn.TheVariants.{Ends, Outside, Uses, OtherLength, Does}
+use Rattle.sdv_audit.specs.declared.turn.Turn.TheVariants.{Ends, Outside, Uses, Resumes, OtherLength, Does}
 use Rattle.sdv_audit.specs.Known.{IsIfKnown, IsKnown, nothing_known, announced_told, known_after_order}
 use Rattle.sdv_audit.specs.Turns.{is_count, transfer_ask, event_at, known_after_send, known_after, line_seen, is_expected_answer, is_expected}
 use Rattle.sdv_audit.specs.Possible.{is_possible}
 use Rattle.sdv_audit.proofs.Possibles.{ReadableCsd, reply_possible}
 use Rattle.sdv_audit.specs.Carried.{has_address, pending_at, CarriedFrom, CarriedBy, Follows}
 use Rattle.sdv_audit.proofs.Meant.{DeedMeant, GoesMeant, goes_meant}
-use Rattle.sdv_audit.specs.Standing.{IsToldBy, StepTold, known_of, turn_behind, StartPair, Stood, shape_of, shape_with, start_set, Covers}
+use Rattle.sdv_audit.specs.Standing.{IsRunning, IsToldBy, StepTold, known_of, turn_behind, StartPair, Stood, shape_of, shape_with, start_set, Covers}
 use Rattle.sdv_audit.proofs.ShapeSets.{not_true}
+use Rattle.sdv_audit.proofs.AnyShapes.{any_covers}
 use Rattle.sdv_audit.proofs.Counts.{transfer_order, order_is, counted_legal, waits_same, carried_at_count}
 
 -- WHAT IS KNOWN OF THE HOST stays true
@@ -112,6 +113,7 @@ forget_by b w n (RegisterIn count end) known h i = forgotten known h known.annou
 forget_by b w n (BlocksOut count end) known h i = forgotten known h known.announced i
 forget_by b w n (Wait end) known h i = forgotten known h known.announced i
 forget_by b w n (Lines width) known h i = forgotten known h known.announced i
+forget_by b w n (Running rca lines) known h i = forgotten known h known.announced i
 forget_by b w n End known h i = forgotten known h known.announced i
 
 forget : (k : Kind) (w : Bool) (n : ℕ) (line : TraceLine) (known : HostKnown) (h : Host) →
@@ -165,6 +167,19 @@ goes_keeps : (k : Kind) (turn : Turn) (line : TraceLine) (known : HostKnown) (c 
 goes_keeps k (Does deed) line known c h u g i goes = deed_keeps k deed line known c h u g i goes
 goes_keeps k (Uses width) line known c h u g i goes =
     same_pair k (record known { lines = width }) c u (record h { lines = width }) g goes.0 goes.1 (uses k known c h width i goes.2)
+goes_keeps k (Resumes rca lines) line known c h u g i goes =
+    let there : IsRunning k rca lines u g = goes in
+    record {
+      pair = there.pair;
+      is_known = record {
+        rca = there.rca_is;
+        lines = there.lines_are;
+        csd = there.csd;
+        announced = tt;
+        register_length = there.register_length;
+        flags = there.flags;
+      };
+    }
 goes_keeps k (OtherLength due) line known c h u g i goes = absurd goes
 goes_keeps k Ends line known c h u g i goes = same_pair k known c u h g goes.0 goes.1 i
 goes_keeps k Outside line known c h u g i goes = same_pair k known c u h g goes.0 goes.1 i
@@ -231,6 +246,9 @@ goes_tells : (k : Kind) (turn : Turn) (line : TraceLine) (c : Card) (h : Host) (
     Tells u g
 goes_tells k (Does deed) line c h u g pair goes t = deed_tells k deed line c h u g pair goes t
 goes_tells k (Uses width) line c h u g pair goes t = same_tells c u (record h { lines = width }) g goes.0 goes.1 (other_lines c h width t)
+goes_tells k (Resumes rca lines) line c h u g pair goes t =
+    let there : IsRunning k rca lines u g = goes in
+    record { sound = there.sound; told = there.profile.told; readable = there.profile.readable }
 goes_tells k (OtherLength due) line c h u g pair goes t = absurd goes
 goes_tells k Ends line c h u g pair goes t = same_tells c u h g goes.0 goes.1 t
 goes_tells k Outside line c h u g pair goes t = same_tells c u h g goes.0 goes.1 t
@@ -390,6 +408,8 @@ follows k (Uses width) line known shapes c h u g i tells among goes = record {
   among = among;
   leads = pair_with_lines k c h width i.pair ∙ (ap (λ v. shape_of c v) goes.1 ∙ ap (λ v. shape_of v g) goes.0);
 }
+follows k (Resumes rca lines) line known shapes c h u g i tells among goes =
+    record { source = shape_of c h; among = among; is_any = any_covers k rca lines u g goes }
 follows k (OtherLength due) line known shapes c h u g i tells among goes = absurd goes
 follows k Ends line known shapes c h u g i tells among goes =
     subst (λ v. May shapes (shape_of v g)) goes.0 (subst (λ v. May shapes (shape_of c v)) goes.1 among)

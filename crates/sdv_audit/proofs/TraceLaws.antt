@@ -53,8 +53,8 @@ first_held report k style read line old now w = record {
   at = w.at;
   noted = w.noted;
   pending = record {
-    notes_are = λ rest. ap (notes k style at_start) (append_assoc read (line ∷ []) rest) ∙ w.pending.notes_are (line ∷ rest);
-    leads = λ rest. ap (progress_from k style at_start) (append_assoc read (line ∷ []) rest) ∙ w.pending.leads (line ∷ rest);
+    notes_are = λ rest. ap (notes k style (at_start style)) (append_assoc read (line ∷ []) rest) ∙ w.pending.notes_are (line ∷ rest);
+    leads = λ rest. ap (progress_from k style (at_start style)) (append_assoc read (line ∷ []) rest) ∙ w.pending.leads (line ∷ rest);
   };
   written_is = w.written_is;
 }
@@ -72,10 +72,10 @@ next_held report new k style read held line old out now w t = record {
   noted = w.noted ++ line_notes k style w.progress held.number (told_with held.line (Some line.line));
   pending = record {
     notes_are = λ rest.
-        ap (notes k style at_start) (append_assoc read (line ∷ []) rest) ∙ (w.pending.notes_are (line ∷ rest)
+        ap (notes k style (at_start style)) (append_assoc read (line ∷ []) rest) ∙ (w.pending.notes_are (line ∷ rest)
         ∙ sym (append_assoc w.noted (line_notes k style w.progress held.number (told_with held.line (Some line.line)))
         (notes k style (progress_after k style w.progress (told_with held.line (Some line.line))) (line ∷ rest))));
-    leads = λ rest. ap (progress_from k style at_start) (append_assoc read (line ∷ []) rest) ∙ w.pending.leads (line ∷ rest);
+    leads = λ rest. ap (progress_from k style (at_start style)) (append_assoc read (line ∷ []) rest) ∙ w.pending.leads (line ∷ rest);
   };
   written_is = adds_more style w.noted (line_notes k style w.progress held.number (told_with held.line (Some line.line))) old out now w.written_is
       (subst (λ v. AddsNotes v (line_notes k v w.progress held.number (told_with held.line (Some line.line))) out now) w.style_is
@@ -87,9 +87,9 @@ pub none_held : (report : Report) (k : Kind) (style : Style) (read : List Number
     Written report None k style read old now → Finished report k style read old now
 none_held report k style read old now w = record {
   style_is = w.style_is;
-  at = subst (ReportAt report) (sym (ap (progress_from k style at_start) (sym (append-nil read)) ∙ w.pending.leads [])) w.at;
+  at = subst (ReportAt report) (sym (ap (progress_from k style (at_start style)) (sym (append-nil read)) ∙ w.pending.leads [])) w.at;
   written_is = subst (λ (v : List Note). AddsNotes style v old now)
-      (sym (ap (notes k style at_start) (sym (append-nil read)) ∙ (w.pending.notes_are [] ∙ append-nil w.noted))) w.written_is;
+      (sym (ap (notes k style (at_start style)) (sym (append-nil read)) ∙ (w.pending.notes_are [] ∙ append-nil w.noted))) w.written_is;
 }
 
 -- the last line
@@ -97,11 +97,11 @@ pub last_held : (report new : Report) (k : Kind) (style : Style) (read : List Nu
     Written report (Some held) k style read old out → Took report new held.number (told_with held.line None) out now → Finished new k style read old now
 last_held report new k style read held old out now w t = record {
   style_is = t.style_is ∙ w.style_is;
-  at = subst (ReportAt new) (sym (ap (progress_from k style at_start) (sym (append-nil read)) ∙ w.pending.leads []))
+  at = subst (ReportAt new) (sym (ap (progress_from k style (at_start style)) (sym (append-nil read)) ∙ w.pending.leads []))
       (subst (λ v. ReportAt new (progress_after k v w.progress (told_with held.line None))) w.style_is
       (subst (λ v. ReportAt new (progress_after v report.style w.progress (told_with held.line None))) w.kind (t.course w.progress w.at)));
   written_is = subst (λ (v : List Note). AddsNotes style v old now)
-      (sym (ap (notes k style at_start) (sym (append-nil read)) ∙ (w.pending.notes_are []
+      (sym (ap (notes k style (at_start style)) (sym (append-nil read)) ∙ (w.pending.notes_are []
       ∙ ap (λ (v : List Note). w.noted ++ v) (append-nil (line_notes k style w.progress held.number (told_with held.line None))))))
       (adds_more style w.noted (line_notes k style w.progress held.number (told_with held.line None)) old out now w.written_is
       (subst (λ v. AddsNotes v (line_notes k v w.progress held.number (told_with held.line None)) out now) w.style_is
@@ -109,12 +109,12 @@ last_held report new k style read held old out now w t = record {
 }
 
 -- before the first line
-pub begins : (report : Report) (k : Kind) (style : Style) (now : Option (List ℕ)) → report.kind ≡ k → report.style ≡ style → ReportAt report at_start →
+pub begins : (report : Report) (k : Kind) (style : Style) (now : Option (List ℕ)) → report.kind ≡ k → report.style ≡ style → ReportAt report (at_start style) →
     Written report None k style [] now now
 begins report k style now kind style_is at = record {
   kind = kind;
   style_is = style_is;
-  progress = at_start;
+  progress = at_start style;
   at = at;
   noted = [];
   pending = record { notes_are = λ rest. refl; leads = λ rest. refl };

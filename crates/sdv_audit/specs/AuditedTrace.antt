@@ -31,7 +31,7 @@ pub record StoppedAt (k : Kind) (style : Style) (old left written after : Option
   pub trace : Trace
   pub read : LinesRead style old left trace
   pub number_is : number ≡ next_number trace
-  pub written_is : AddsNotes style (notes k style at_start trace.lines) written after
+  pub written_is : AddsNotes style (notes k style (at_start style) trace.lines) written after
 
 -- the text behind them is no line and no comment, for this reason
 pub record StoppedByLine (k : Kind) (style : Style) (old written after : Option (List ℕ))
@@ -104,14 +104,14 @@ pub record Waits (pending : Pending) (k : Kind) (style : Style) (trace : Trace) 
 pub record Finished (report : Report) (k : Kind) (style : Style) (read : List Numbered) (old now : Option (List ℕ))
     : Type 0 where
   pub style_is : report.style ≡ style
-  pub at : ReportAt report (progress_from k style at_start read)
-  pub written_is : AddsNotes style (notes k style at_start read) old now
+  pub at : ReportAt report (progress_from k style (at_start style) read)
+  pub written_is : AddsNotes style (notes k style (at_start style) read) old now
 
 -- the notes on the lines that were read are written, and the fault tells the number of the next text
 abbrev pub StopsAt : Kind → Style → Trace → (old now : Option (List ℕ)) → TraceLineFault → Result Tally TraceFault → Type 0
 StopsAt k style trace old now fault (Ok tally) = ⊥
 StopsAt k style trace old now fault (Err (faults.Line why number)) =
-    (why ≡ fault) × (number ≡ next_number trace) × AddsNotes style (notes k style at_start trace.lines) old now
+    (why ≡ fault) × (number ≡ next_number trace) × AddsNotes style (notes k style (at_start style) trace.lines) old now
 StopsAt k style trace old now fault (Err (faults.Length number)) = ⊥
 StopsAt k style trace old now fault (Err faults.Read) = ⊥
 StopsAt k style trace old now fault (Err faults.Room) = NoRoom k style trace.lines None
@@ -121,8 +121,8 @@ abbrev pub StopsReading : Kind → Style → Trace → (old now : Option (List �
 StopsReading k style trace old now fault (Ok tally) = ⊥
 StopsReading k style trace old now fault (Err (faults.Line why number)) = ⊥
 StopsReading k style trace old now fault (Err (faults.Length number)) =
-    (fault ≡ text_faults.Long) × (number ≡ next_number trace) × AddsNotes style (notes k style at_start trace.lines) old now
-StopsReading k style trace old now fault (Err faults.Read) = AddsNotes style (notes k style at_start trace.lines) old now
+    (fault ≡ text_faults.Long) × (number ≡ next_number trace) × AddsNotes style (notes k style (at_start style) trace.lines) old now
+StopsReading k style trace old now fault (Err faults.Read) = AddsNotes style (notes k style (at_start style) trace.lines) old now
 StopsReading k style trace old now fault (Err faults.Room) = NoRoom k style trace.lines None
 StopsReading k style trace old now fault (Err why) = Unit {0}
 

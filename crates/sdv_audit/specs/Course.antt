@@ -1,6 +1,6 @@
 -- The COURSE of an audit: where it stands after the lines so far, and what it finds at the next one, both computed.
 -- A list of shapes may have one twice, and in any order: only which ones there are counts.
-use Rattle.std.specs.Prelude.{◌≡◌, ◌≤◌, ◌==◌, ◌&&◌, ◌↔◌, not, nat_lt, Bool, true, false, ℕ, List, [], ◌∷◌, Option, Some, None, IfSome, map, if◌then◌else◌}
+use Rattle.std.specs.Prelude.{◌≡◌, ◌≤◌, ◌==◌, ◌&&◌, ◌||◌, ◌↔◌, not, nat_lt, Bool, true, false, ℕ, List, [], ◌∷◌, Option, Some, None, IfSome, map, if◌then◌else◌}
 use Rattle.sdv_registers.specs.declared.kind.Kind.{Kind}
 use Rattle.sdv_card.specs.declared.shape.Shape.{Shape}
 use Rattle.sdv_card.specs.declared.event.Event.{Event}
@@ -17,16 +17,19 @@ use Rattle.sdv_audit.specs.declared.known.HostKnown.{HostKnown}
 use Rattle.sdv_audit.specs.declared.turn.Told.{Told}
 use Rattle.sdv_audit.specs.declared.turn.Deed.{Deed}
 use Rattle.sdv_audit.specs.declared.turn.Turn.{Turn}
-use Rattle.sdv_audit.specs.declared.turn.Turn.TheVariants.{Uses, OtherLength, Does}
+use Rattle.sdv_audit.specs.declared.turn.Turn.TheVariants.{Uses, Resumes, OtherLength, Does}
 use Rattle.sdv_audit.specs.declared.audit.Audit.{Audit}
 use Rattle.sdv_audit.specs.declared.audit.Findings.{Findings}
-use Rattle.sdv_audit.specs.Known.{nothing_known}
+use Rattle.sdv_audit.specs.Known.{nothing_known, known_running}
+use Rattle.sdv_card.specs.declared.state.Width.TheVariants.{One}
 use Rattle.sdv_audit.specs.Turns.{turn_of, known_after, line_seen, event_at, is_expected}
 use Rattle.sdv_audit.specs.Carried.{has_address, pending_at}
 use Rattle.sdv_audit.specs.Standing.{start_set, NoneAnswers}
 use Rattle.sdv_audit.specs.Lived.{turn_within, IsReckless}
 use Rattle.sdv_audit.specs.Beyond.{is_beyond, NoneInBounds}
-use Rattle.sdv_audit.specs.Audited.{is_empty, is_unanswered, is_reset, lines_told}
+use Rattle.sdv_audit.specs.AnyShape.{any_shapes}
+use Rattle.sdv_audit.specs.Audited.{is_empty, is_unanswered, is_reset, lines_told, running_told, address_told, resumes_by}
+use Rattle.sdv_card.specs.declared.state.Width.{Width}
 
 -- THE SAME IS SEEN of two answers
 
@@ -94,6 +97,7 @@ abbrev pub shapes_after : Kind → Turn → TraceLine → HostKnown → List Sha
 shapes_after k (Does deed) line known shapes =
     shapes_if (is_expected k known.csd deed line) (each shapes (led_to k deed line (has_address known)))
 shapes_after k (Uses width) line known shapes = map (λ s. with_lines_shown s width) shapes
+shapes_after k (Resumes rca lines) line known shapes = shapes_if (not (is_empty shapes)) (any_shapes k lines)
 shapes_after k (OtherLength due) line known shapes = []
 shapes_after k turn line known shapes = shapes
 
@@ -119,6 +123,16 @@ abbrev pub least_illegal : Kind → Turn → List Shape → Option Shape
 least_illegal k (Does deed) shapes = least (λ s. not (legal_code k s.0 (event_at deed s.0))) shapes
 least_illegal k turn shapes = None
 
+-- the event is legal at no shape
+abbrev pub is_forbidden : Kind → Turn → List Shape → Bool
+is_forbidden k (Does deed) shapes = all (λ s. not (legal_code k s.0 (event_at deed s.0))) shapes
+is_forbidden k turn shapes = false
+
+-- Where a trace begins in any state, its host may know which it is: a line is reckless there, if no state that is left
+-- allows it.
+abbrev pub reckless_at : (running : Bool) → Kind → Turn → List Shape → Option Shape
+reckless_at running k turn shapes = if running && not (is_forbidden k turn shapes) then None else least_illegal k turn shapes
+
 -- THE COURSE
 
 pub record Course : Type 0 where
@@ -129,15 +143,29 @@ pub record Course : Type 0 where
   -- at each shape, each address so far is that of blocks of some card of the profile, also with the greatest count
   -- where no line told it, and no count was untold that a preset count demands
   pub bounded : Bool
+  -- the card could be in any state, before some line by which the next one is judged
+  pub running : Bool
   -- the lines by which the next one is judged, the last one first
   pub past : List Told
 
 -- before the first line
 abbrev pub begun : Course
-begun = record { known = nothing_known; shapes = start_set; bounded = true; past = [] }
+begun = record { known = nothing_known; shapes = start_set; bounded = true; running = false; past = [] }
+
+-- before the first line of a trace that begins in a running system: nothing is followed yet, and until a line names the
+-- relative card address it is 1
+abbrev pub unseen : Course
+unseen = record begun { known = known_running 1 One; shapes = [] }
+
+abbrev pub begun_at : (running : Bool) → Course
+begun_at running = if running then unseen else begun
 
 abbrev pub turn_at : Kind → Told → Course → Turn
 turn_at k told c = turn_of k c.known told
+
+abbrev pub is_resumed : Turn → Bool
+is_resumed (Resumes rca lines) = true
+is_resumed turn = false
 
 -- one line further
 abbrev pub goes_on : Kind → Told → Course → Course
@@ -145,6 +173,7 @@ goes_on k told c = record {
   known = known_after k (turn_at k told c) told.line c.known;
   shapes = shapes_after k (turn_at k told c) told.line c.known c.shapes;
   bounded = c.bounded && all (λ s. turn_within k (turn_at k told c) told.line s.0) c.shapes;
+  running = c.running || is_resumed (turn_at k told c);
   past = told ∷ c.past;
 }
 
@@ -152,22 +181,41 @@ goes_on k told c = record {
 abbrev pub goes_anew : Kind → Told → Course → Course
 goes_anew k told c = goes_on k told (goes_on k (lines_told c.known.lines) begun)
 
--- no shape is left, and the line is a CMD0
+-- no shape is left, or the card could be in any state, and the line is a CMD0
 abbrev pub restarts_at : Kind → Told → Course → Bool
-restarts_at k told c = is_empty c.shapes && is_reset (turn_at k told c)
+restarts_at k told c = (is_empty c.shapes || c.running) && is_reset (turn_at k told c)
+
+-- from any state on, beside a host with this relative card address
+abbrev pub any_state : Kind → (rca : ℕ) → Width → Course
+any_state k rca lines = goes_on k (running_told rca lines) begun
+
+abbrev pub goes_again : Kind → Told → Course → Course
+goes_again k told c = goes_on k told (any_state k (address_told told.line c.known) c.known.lines)
+
+-- no shape is left at an event, or one names another relative address than the host had in any state
+abbrev pub resumes_at : Told → Course → Bool
+resumes_at told c = resumes_by (is_empty c.shapes) c.running told.line c.known
+
+abbrev pub course_here : Kind → Told → Course → Course
+course_here k told c = if resumes_at told c then goes_again k told c else goes_on k told c
 
 abbrev pub course_after : Kind → Told → Course → Course
-course_after k told c = if restarts_at k told c then goes_anew k told c else goes_on k told c
+course_after k told c = if restarts_at k told c then goes_anew k told c else course_here k told c
+
+-- the course by which a line is judged that is no new beginning from a CMD0
+abbrev pub judged_by : Kind → Told → Course → Course
+judged_by k told c = if resumes_at told c then any_state k (address_told told.line c.known) c.known.lines else c
 
 -- WHAT IS FOUND
 
 abbrev pub found_on : Kind → Told → Course → Findings
 found_on k told c = record {
   turn = turn_at k told c;
-  reckless = least_illegal k (turn_at k told c) c.shapes;
-  unanswered = is_unanswered (least_illegal k (turn_at k told c) c.shapes) c.shapes (goes_on k told c).shapes;
+  reckless = reckless_at c.running k (turn_at k told c) c.shapes;
+  unanswered = is_unanswered (reckless_at c.running k (turn_at k told c) c.shapes) c.shapes (goes_on k told c).shapes;
   beyond = not (is_empty c.shapes) && all (λ s. is_beyond k c.known (turn_at k told c) told.line s.0) c.shapes;
   restarted = false;
+  resumed = false;
 }
 
 abbrev pub found_anew : Kind → Told → Course → Findings
@@ -177,10 +225,18 @@ found_anew k told c = record {
   unanswered = is_empty (goes_anew k told c).shapes;
   beyond = false;
   restarted = true;
+  resumed = false;
 }
 
+abbrev pub found_again : Kind → Told → Course → Findings
+found_again k told c =
+    record (found_on k told (any_state k (address_told told.line c.known) c.known.lines)) { resumed = true }
+
+abbrev pub found_here : Kind → Told → Course → Findings
+found_here k told c = if resumes_at told c then found_again k told c else found_on k told c
+
 abbrev pub found_at : Kind → Told → Course → Findings
-found_at k told c = if restarts_at k told c then found_anew k told c else found_on k told c
+found_at k told c = if restarts_at k told c then found_anew k told c else found_here k told c
 
 -- AN AUDIT stands where a course does
 
@@ -191,6 +247,7 @@ pub record IsAt (audit : Audit) (c : Course) : Type 0 where
   pub known : audit.known ≡ c.known
   pub shapes : SameMembers audit.shapes.items c.shapes
   pub bounded : audit.bounded ≡ c.bounded
+  pub running : audit.running ≡ c.running
 
 -- one line further, without and with a new beginning
 abbrev pub GoesOn : (old new : Audit) → Told → Type 0
@@ -199,9 +256,21 @@ GoesOn old new told = (c : Course) → IsAt old c → IsAt new (goes_on old.kind
 abbrev pub GoesAnew : (old new : Audit) → Told → Type 0
 GoesAnew old new told = (c : Course) → IsAt old c → IsAt new (goes_anew old.kind told c)
 
+abbrev pub GoesAgain : (old new : Audit) → Told → Type 0
+GoesAgain old new told = (c : Course) → IsAt old c → IsAt new (goes_again old.kind told c)
+
+abbrev pub GoesHere : (old new : Audit) → Told → Type 0
+GoesHere old new told = (c : Course) → IsAt old c → IsAt new (course_here old.kind told c)
+
 -- what is found is that of any course where the audit stands
 abbrev pub FindsOn : Audit → Told → Findings → Type 0
 FindsOn audit told found = (c : Course) → IsAt audit c → found ≡ found_on audit.kind told c
+
+abbrev pub FindsAgain : Audit → Told → Findings → Type 0
+FindsAgain audit told found = (c : Course) → IsAt audit c → found ≡ found_again audit.kind told c
+
+abbrev pub FindsHere : Audit → Told → Findings → Type 0
+FindsHere audit told found = (c : Course) → IsAt audit c → found ≡ found_here audit.kind told c
 
 abbrev pub Finds : Audit → Told → Findings → Type 0
 Finds audit told found = (c : Course) → IsAt audit c → found ≡ found_at audit.kind told c
@@ -213,16 +282,19 @@ abbrev pub course_from : Kind → Course → List Told → Course
 course_from k c [] = c
 course_from k c (told ∷ rest) = course_from k (course_after k told c) rest
 
--- what is found at a line after a course, and the course after it
+-- what is found at a line that is judged by a course, and the course after it
 pub record FindingHolds (k : Kind) (told : Told) (c : Course) (found : Findings) (after : Course) : Type 0 where
   -- no card answers so
   pub unanswered : found.unanswered ≡ true → NoneAnswers k after.past
+  -- no card in any state answers so where the event is legal
+  pub forbidden : IfSome found.reckless (λ s. c.running ≡ true → NoneAnswers k after.past)
   -- the host was reckless beside a real card
   pub reckless : IfSome found.reckless (λ s. c.bounded ≡ true → IsReckless k c.past (turn_at k told c) s)
   -- no card that may stand there has the blocks
   pub beyond : found.beyond ≡ true → NoneInBounds k c.past told
 
 abbrev pub FindingsHold : Kind → Type 0
-FindingsHold k = (before : List Told) (told : Told) →
-    FindingHolds k told (course_from k begun before) (found_at k told (course_from k begun before))
-    (course_after k told (course_from k begun before))
+FindingsHold k = (running : Bool) (before : List Told) (told : Told) →
+    FindingHolds k told (judged_by k told (course_from k (begun_at running) before))
+    (found_at k told (course_from k (begun_at running) before))
+    (course_after k told (course_from k (begun_at running) before))

@@ -1,6 +1,7 @@
 -- What a trace tells of its host: its relative card address, its data lines, the CSD that it read last, and what it
 -- announced. No line of a trace shows the script's variables and flags, and the bytes of an EXT_CSD.
 use Rattle.std.specs.Prelude.{◌≡◌, ℕ, Option, Some, None}
+use Rattle.sdv_card.specs.declared.state.Width.{Width}
 use Rattle.sdv_card.specs.declared.state.Width.TheVariants.{One}
 use Rattle.sdv_card.specs.declared.command.Order.{Order}
 use Rattle.sdv_card.specs.declared.command.Order.TheVariants.{ReadSingleBlock, ReadMultipleBlock, WriteBlock, WriteMultipleBlock}
@@ -15,6 +16,16 @@ nothing_known = record {
   lines = One;
   csd = None;
   announced = Some 0;
+  register_length = 0;
+}
+
+-- where nothing is known but the relative card address and the data lines; no register is on its way
+abbrev pub known_running : (rca : ℕ) → (lines : Width) → HostKnown
+known_running rca lines = record {
+  rca = rca;
+  lines = lines;
+  csd = None;
+  announced = None;
   register_length = 0;
 }
 

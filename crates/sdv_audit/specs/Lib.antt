@@ -6,6 +6,7 @@ pub mod Possible
 pub mod Turns
 pub mod Carried
 pub mod Standing
+pub mod AnyShape
 pub mod Audited
 pub mod Lived
 pub mod Beyond

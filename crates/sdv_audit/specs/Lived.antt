@@ -29,7 +29,7 @@ use Rattle.sdv_audit.specs.declared.turn.Told.{Told}
 use Rattle.sdv_audit.specs.declared.turn.Deed.{Deed}
 use Rattle.sdv_audit.specs.declared.turn.Deed.TheVariants.{Known, Begins}
 use Rattle.sdv_audit.specs.declared.turn.Turn.{Turn}
-use Rattle.sdv_audit.specs.declared.turn.Turn.TheVariants.{Uses, OtherLength, Does}
+use Rattle.sdv_audit.specs.declared.turn.Turn.TheVariants.{Uses, Resumes, OtherLength, Does}
 use Rattle.sdv_audit.specs.Turns.{is_count, transfer_ask, line_seen}
 use Rattle.sdv_audit.specs.Carried.{pending_at}
 use Rattle.sdv_audit.specs.Standing.{turn_behind}
@@ -79,6 +79,7 @@ deed_within k (Begins write) line code =
 
 abbrev pub turn_within : Kind → Turn → TraceLine → (code : ℕ) → Bool
 turn_within k (Does deed) line code = deed_within k deed line code
+turn_within k (Resumes rca lines) line code = false
 turn_within k turn line code = true
 
 -- THE ENTRIES OF A HISTORY that lines tell
@@ -126,6 +127,7 @@ abbrev pub Adds : Kind → Turn → TraceLine → (code : ℕ) → (before entri
 Adds k (Does deed) line code before entries = AddsDeed k deed line code before entries
 Adds k (Uses width) line code before entries =
     entries ≡ before ++ HostSets [] (digits (code_after code before)).flags width ∷ []
+Adds k (Resumes rca lines) line code before entries = ⊥
 Adds k (OtherLength due) line code before entries = ⊥
 Adds k turn line code before entries = before ≡ entries
 

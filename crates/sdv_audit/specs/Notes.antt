@@ -7,9 +7,10 @@ use Rattle.sdv_telling.specs.Statements.{Text}
 use Rattle.sdv_audit.specs.declared.audit.Findings.{Findings}
 use Rattle.sdv_audit.specs.declared.line.TraceLine.{TraceLine}
 use Rattle.sdv_audit.specs.declared.line.TraceLine.TheVariants.{Lines}
-use Rattle.sdv_audit.specs.declared.notes.TheConstants.{BEGINS_ANEW, IS_OUTSIDE, MAY_BE_IN, NO_CARD, NO_HOST, BEYOND_THE, NOT_FOLLOWED}
+use Rattle.sdv_audit.specs.declared.notes.TheConstants.{BEGINS_ANEW, ANY_STATE, IS_OUTSIDE, MAY_BE_IN, NO_CARD, NO_HOST, BEYOND_THE, NOT_FOLLOWED}
 use Rattle.sdv_audit.specs.declared.notes.Topic.{Topic}
 use Rattle.sdv_audit.specs.declared.notes.Topic.TheVariants as topics
+use Rattle.sdv_audit.specs.declared.style.Premises.{Premises}
 use Rattle.sdv_audit.specs.declared.style.Style.{Style}
 use Rattle.sdv_audit.specs.declared.style.Tally.{Tally}
 use Rattle.sdv_audit.specs.declared.texts.Count.{Count}
@@ -35,6 +36,7 @@ is_reckless (Some s) = true
 abbrev pub is_noted : Style → Findings → Topic → Bool
 is_noted style found topics.States = style.annotate
 is_noted style found topics.Anew = found.restarted
+is_noted style found topics.Resumed = found.resumed
 is_noted style found topics.Outside = is_outside found.turn
 is_noted style found topics.Reckless = is_reckless found.reckless
 is_noted style found topics.Unanswered = found.unanswered && not (is_other_length found.turn)
@@ -46,20 +48,31 @@ pub record Note : Type 0 where
   pub number : ℕ
   pub line : TraceLine
   pub topic : Topic
+  pub premises : Premises
+
+-- what is said of a line rests on these, at which the audit and the lines outside the tables before it were
+abbrev pub premises_of : (running bounded : Bool) → (outside : ℕ) → Findings → Premises
+premises_of running bounded outside found = record {
+  any_state = found.resumed || (running && not found.restarted);
+  bounded = found.restarted || (bounded && not found.resumed);
+  outside_before = not (outside == 0);
+}
 
 abbrev pub note_if : Bool → Note → List Note
 note_if due note = if due then note ∷ [] else []
 
 -- those of these topics that are due
-abbrev pub notes_at : Style → (number : ℕ) → TraceLine → Findings → List Topic → List Note
-notes_at style number line found all =
-    flat_map (λ topic. note_if (is_noted style found topic) (record { number = number; line = line; topic = topic })) all
+abbrev pub notes_at : Style → (number : ℕ) → TraceLine → Premises → Findings → List Topic → List Note
+notes_at style number line premises found all =
+    flat_map (λ topic. note_if (is_noted style found topic)
+    (record { number = number; line = line; topic = topic; premises = premises })) all
 
 -- HOW A NOTE IS PRINTED: the number of its line, the line, and words; or an object of JSON with these and with a name
 
 abbrev pub name : Topic → Text
 name topics.States = codes "states"
 name topics.Anew = codes "anew"
+name topics.Resumed = codes "any_state"
 name topics.Outside = codes "outside"
 name topics.Reckless = codes "reckless"
 name topics.Unanswered = codes "unanswered"
@@ -70,6 +83,7 @@ name topics.Beyond = codes "beyond"
 abbrev pub lead : Topic → Text
 lead topics.States = []
 lead topics.Anew = BEGINS_ANEW.now
+lead topics.Resumed = ANY_STATE.now
 lead topics.Outside = IS_OUTSIDE.now
 lead topics.Reckless = MAY_BE_IN.now
 lead topics.Unanswered = NO_CARD.now
@@ -81,6 +95,22 @@ abbrev pub shown : Topic → TraceLine → Text
 shown topics.States line = line_text line
 shown topic line = told_text line
 
+abbrev pub json_lead : (number : ℕ) → (told name : Text) → Text
+json_lead number told name =
+    codes "{\"line\":" ++ (decimal number ++ (codes ",\"told\":\"" ++ (told
+    ++ (codes "\",\"finding\":\"" ++ (name ++ codes "\"")))))
+
+abbrev pub json_bool : Bool → Text
+json_bool b = if b then codes "true" else codes "false"
+
+abbrev pub json_member : (front : Text) → Bool → Text
+json_member front b = front ++ json_bool b
+
+abbrev pub json_premises : Premises → Text
+json_premises p =
+    json_member (codes ",\"any_state\":") p.any_state ++ (json_member (codes ",\"bounded\":") p.bounded
+    ++ json_member (codes ",\"outside_before\":") p.outside_before)
+
 abbrev pub json_front : (number : ℕ) → (told name : Text) → Text
 json_front number told name =
     codes "{\"line\":" ++ (decimal number ++ (codes ",\"told\":\"" ++ (told
@@ -88,7 +118,8 @@ json_front number told name =
 
 abbrev pub note_front : Style → Note → Text
 note_front style n =
-    if style.json then json_front n.number (shown n.topic n.line) (name n.topic)
+    if style.json then json_lead n.number (shown n.topic n.line) (name n.topic)
+    ++ (json_premises n.premises ++ codes ",\"text\":\"")
     else codes "line " ++ (decimal n.number ++ (codes ": " ++ (shown n.topic n.line ++ codes ": ")))
 
 abbrev pub note_end : Style → Text
@@ -103,7 +134,7 @@ HasNotes style [] text = text ≡ []
 HasNotes style (n ∷ ns) text = (words rest : Text) × (text ≡ note_text style n words ++ rest) × HasNotes style ns rest
 
 -- THE TALLY: how many lines there were, and how often each thing was found; no count passes 2^64 - 1. A line is not followed
--- where no shape is left, unless the audit begins anew there.
+-- where no shape is left, unless the audit begins anew there, or goes on from any state.
 
 abbrev pub counted : Bool → ℕ → ℕ
 counted more n = if more then min (n + 1) (2 ^ 64 - 1) else n
@@ -118,7 +149,7 @@ abbrev pub stretch_after : (lost numbered : Bool) → ℕ → ℕ
 stretch_after lost numbered stretch = if lost then counted numbered stretch else 0
 
 abbrev pub is_lost : (waits : Bool) → Findings → Bool
-is_lost waits found = waits && not found.restarted
+is_lost waits found = waits && not (found.restarted || found.resumed)
 
 abbrev pub tally_after : (numbered waits : Bool) → Findings → Tally → Tally
 tally_after numbered waits found t = record {

@@ -9,11 +9,13 @@ use Rattle.sdv_audit.specs.declared.texts.Count.{Count}
 use Rattle.sdv_audit.specs.declared.texts.Numbered.{Numbered}
 use Rattle.sdv_audit.specs.declared.turn.Told.{Told}
 use Rattle.sdv_audit.specs.Audited.{is_empty}
-use Rattle.sdv_audit.specs.Course.{Course, IsAt, begun, course_after, found_at}
+use Rattle.sdv_audit.specs.Course.{Course, IsAt, begun_at, course_after, found_at}
 use Rattle.sdv_audit.specs.declared.style.Style.{Style}
 use Rattle.sdv_audit.specs.declared.style.Tally.{Tally}
 use Rattle.sdv_audit.specs.declared.report.Report.{Report}
-use Rattle.sdv_audit.specs.Notes.{HasNotes, Note, ending, has_number, no_tally, notes_at, tally_after}
+use Rattle.sdv_audit.specs.Notes.{HasNotes, Note, ending, has_number, no_tally, notes_at, premises_of, tally_after}
+use Rattle.sdv_audit.specs.declared.audit.Findings.{Findings}
+use Rattle.sdv_audit.specs.declared.style.Premises.{Premises}
 use Rattle.sdv_audit.specs.Texts.{Trace}
 
 -- how far a report is
@@ -21,12 +23,17 @@ pub record Progress : Type 0 where
   pub course : Course
   pub tally : Tally
 
-abbrev pub at_start : Progress
-at_start = record { course = begun; tally = no_tally }
+abbrev pub at_start : Style → Progress
+at_start style = record { course = begun_at style.running; tally = no_tally }
+
+-- what is said of the next line rests on these
+abbrev pub premises_at : Progress → Findings → Premises
+premises_at p found = premises_of p.course.running p.course.bounded p.tally.outside found
 
 -- the notes on the next line, which has this number
 abbrev pub line_notes : Kind → Style → Progress → (number : ℕ) → Told → List Note
-line_notes k style p number told = notes_at style number told.line (found_at k told p.course) TOPICS
+line_notes k style p number told =
+    notes_at style number told.line (premises_at p (found_at k told p.course)) (found_at k told p.course) TOPICS
 
 abbrev pub progress_after : Kind → Style → Progress → Told → Progress
 progress_after k style p told = record {
@@ -53,7 +60,7 @@ progress_from k style p [] = p
 progress_from k style p (n ∷ rest) = progress_from k style (progress_after k style p (told_of n rest)) rest
 
 abbrev pub tally_of : Kind → Style → List Numbered → Tally
-tally_of k style lines = (progress_from k style at_start lines).tally
+tally_of k style lines = (progress_from k style (at_start style) lines).tally
 
 -- WHAT IS WRITTEN
 
@@ -68,7 +75,7 @@ AddsEnding style c t old now = (words : Text) × Appends old now (ending style c
 -- the whole report was
 abbrev pub AddsReport : Kind → Style → Trace → (old now : Option (List ℕ)) → Type 0
 AddsReport k style trace old now =
-    (text words : Text) × HasNotes style (notes k style at_start trace.lines) text
+    (text words : Text) × HasNotes style (notes k style (at_start style) trace.lines) text
     × Appends old now (text ++ ending style trace.count (tally_of k style trace.lines) words)
 
 -- A REPORT is so far
@@ -85,5 +92,5 @@ behind (Some n) rest = n ∷ rest
 pub record PendingAt (k : Kind) (style : Style) (p : Progress) (held : Option Numbered) (read : List Numbered)
     (noted : List Note) : Type 0 where
   pub notes_are : (rest : List Numbered) →
-      notes k style at_start (read ++ rest) ≡ noted ++ notes k style p (behind held rest)
-  pub leads : (rest : List Numbered) → progress_from k style at_start (read ++ rest) ≡ progress_from k style p (behind held rest)
+      notes k style (at_start style) (read ++ rest) ≡ noted ++ notes k style p (behind held rest)
+  pub leads : (rest : List Numbered) → progress_from k style (at_start style) (read ++ rest) ≡ progress_from k style p (behind held rest)

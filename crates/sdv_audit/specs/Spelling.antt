@@ -11,7 +11,7 @@ use Rattle.sdv_card.specs.declared.answer.DataEnd.{DataEnd}
 use Rattle.sdv_card.specs.Modes.{line_count}
 use Rattle.sdv_trace.specs.Trace.{answer_text, command_text, end_text, wait_text, word_text}
 use Rattle.sdv_audit.specs.declared.line.TraceLine.{TraceLine}
-use Rattle.sdv_audit.specs.declared.line.TraceLine.TheVariants.{Exchange, BlocksIn, RegisterIn, BlocksOut, Wait, Lines, End}
+use Rattle.sdv_audit.specs.declared.line.TraceLine.TheVariants.{Exchange, BlocksIn, RegisterIn, BlocksOut, Wait, Lines, Running, End}
 use Rattle.sdv_audit.specs.Reading.{read_line}
 
 -- the line of a phase, by its word and how many blocks or bytes it has
@@ -25,6 +25,7 @@ line_text (RegisterIn count end) = phase_text (codes "REG") count end
 line_text (BlocksOut count end) = phase_text (codes "OUT") count end
 line_text (Wait end) = codes "WAIT" ++ wait_text end
 line_text (Lines width) = codes "LINES " ++ decimal (line_count width)
+line_text (Running rca lines) = codes "running"
 line_text End = codes "done"
 
 -- a line without its answer
@@ -59,6 +60,7 @@ IsLine (Exchange command answer) = (command.index ≤ 63) × IsWord command.argu
 IsLine (BlocksIn count end) = count ≤ 65535
 IsLine (RegisterIn count end) = count ≤ 65535
 IsLine (BlocksOut count end) = count ≤ 65535
+IsLine (Running rca lines) = ⊥
 IsLine line = Unit {0}
 
 -- what is printed is read again

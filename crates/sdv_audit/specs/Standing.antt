@@ -1,5 +1,5 @@
 -- Where a card may stand after the lines of a trace, beside its host.
-use Rattle.std.specs.Prelude.{◌≡◌, IsTrue, ℕ, List, [], ◌∷◌, length, map}
+use Rattle.std.specs.Prelude.{◌≡◌, true, IsTrue, ℕ, List, [], ◌∷◌, length, map, None}
 use Rattle.sdv_registers.specs.declared.kind.Kind.{Kind}
 use Rattle.sdv_card.specs.declared.shape.Shape.{Shape}
 use Rattle.sdv_card.specs.declared.event.Ask.{Ask}
@@ -14,8 +14,11 @@ use Rattle.sdv_card.specs.Host.{Host, host_after}
 use Rattle.sdv_card.specs.HostEvents.{Makes}
 use Rattle.sdv_card.specs.Legal.{EventLegal}
 use Rattle.sdv_card.specs.Step.{Step}
-use Rattle.sdv_card.specs.Shapes.{pair_code, start_codes}
-use Rattle.sdv_card.specs.Profile.{IsAtStart, host_at_start}
+use Rattle.sdv_card.specs.Laws.{Sound}
+use Rattle.sdv_card.specs.Shapes.{IsPair, pair_code, start_codes}
+use Rattle.sdv_card.specs.Takes.{matches}
+use Rattle.sdv_card.specs.Profile.{IsAtStart, IsOfProfile, host_at_start}
+use Rattle.sdv_card.specs.declared.state.Width.{Width}
 use Rattle.sdv_audit.specs.declared.line.TraceLine.{TraceLine}
 use Rattle.sdv_audit.specs.declared.line.TraceLine.TheVariants.{Exchange, BlocksIn, RegisterIn, BlocksOut, Wait}
 use Rattle.sdv_audit.specs.declared.known.HostKnown.{HostKnown}
@@ -23,7 +26,7 @@ use Rattle.sdv_audit.specs.declared.turn.Told.{Told}
 use Rattle.sdv_audit.specs.declared.turn.Deed.{Deed}
 use Rattle.sdv_audit.specs.declared.turn.Deed.TheVariants.{Known, Begins}
 use Rattle.sdv_audit.specs.declared.turn.Turn.{Turn}
-use Rattle.sdv_audit.specs.declared.turn.Turn.TheVariants.{Uses, OtherLength, Does}
+use Rattle.sdv_audit.specs.declared.turn.Turn.TheVariants.{Uses, Resumes, OtherLength, Does}
 use Rattle.sdv_audit.specs.Known.{nothing_known}
 use Rattle.sdv_audit.specs.Turns.{turn_of, known_after}
 
@@ -60,10 +63,25 @@ DeedTold k (Known (Send told)) line c h u g = AskTold k (λ count. count ≡ tol
 DeedTold k (Known event) line c h u g = StepTold k event line c h u g
 DeedTold k (Begins write) line c h u g = AskTold k (λ count. Unit {0}) line c h u g
 
--- from a card beside its host to another one, by one line; a data phase of another length is none that the host makes
+-- ANY CARD of the profile in any state, beside a host that has its relative address and uses these data lines: what the
+-- host knows of the card is true, but it knows no register, no count is preset, and no register is on its way
+pub record IsRunning (k : Kind) (rca : ℕ) (lines : Width) (c : Card) (h : Host) : Type 0 where
+  pub pair : IsPair k c h
+  pub profile : IsOfProfile c
+  pub sound : Sound c h
+  pub matched : matches c.rca h.rca ≡ true
+  pub preset : c.preset ≡ 0
+  pub rca_is : h.rca ≡ rca
+  pub lines_are : h.lines ≡ lines
+  pub csd : h.csd ≡ None
+  pub register_length : h.register_length ≡ 0
+  pub flags : h.flags ≡ 0
+
+-- from a card beside its host to another one, by one line; where an audit does not know what came before, to any; a data phase of another length is none that the host makes
 abbrev pub Goes : Kind → Turn → TraceLine → Card → Host → Card → Host → Type 0
 Goes k (Does deed) line c h u g = DeedTold k deed line c h u g
 Goes k (Uses width) line c h u g = (c ≡ u) × (record h { lines = width } ≡ g) × IsTrue (has_width k width)
+Goes k (Resumes rca lines) line c h u g = IsRunning k rca lines u g
 Goes k (OtherLength due) line c h u g = ⊥
 Goes k turn line c h u g = (c ≡ u) × (h ≡ g)
 

@@ -20,14 +20,14 @@ use Rattle.sdv_card.specs.Modes.{has_width}
 use Rattle.sdv_card.specs.Outcomes.{phase_seen, wait_seen}
 use Rattle.sdv_card.specs.Seen.{answer_seen}
 use Rattle.sdv_audit.specs.declared.line.TraceLine.{TraceLine}
-use Rattle.sdv_audit.specs.declared.line.TraceLine.TheVariants.{Exchange, BlocksIn, RegisterIn, BlocksOut, Wait, Lines, End}
+use Rattle.sdv_audit.specs.declared.line.TraceLine.TheVariants.{Exchange, BlocksIn, RegisterIn, BlocksOut, Wait, Lines, Running, End}
 use Rattle.sdv_audit.specs.declared.known.HostKnown.{HostKnown}
 use Rattle.sdv_audit.specs.declared.turn.Told.{Told}
 use Rattle.sdv_audit.specs.declared.turn.Deed.{Deed}
 use Rattle.sdv_audit.specs.declared.turn.Deed.TheVariants.{Known, Begins}
 use Rattle.sdv_audit.specs.declared.turn.Turn.{Turn}
-use Rattle.sdv_audit.specs.declared.turn.Turn.TheVariants.{Ends, Outside, Uses, OtherLength, Does}
-use Rattle.sdv_audit.specs.Known.{known_after_order}
+use Rattle.sdv_audit.specs.declared.turn.Turn.TheVariants.{Ends, Outside, Uses, Resumes, OtherLength, Does}
+use Rattle.sdv_audit.specs.Known.{known_after_order, known_running}
 use Rattle.sdv_audit.specs.Possible.{is_possible}
 
 -- THE BLOCKS THAT A COMMAND ANNOUNCES. No frame of CMD18 and CMD25 carries them: they are those of the data phase right
@@ -132,6 +132,7 @@ turn_of_line k known (RegisterIn count end) next = turn_of_phase RecvReg count (
 turn_of_line k known (BlocksOut count end) next = turn_of_phase Give count known.announced
 turn_of_line k known (Wait end) next = Does (Known Waits)
 turn_of_line k known (Lines width) next = if has_width k width then Uses width else Outside
+turn_of_line k known (Running rca lines) next = Resumes rca lines
 turn_of_line k known End next = Ends
 
 abbrev pub turn_of : Kind → HostKnown → Told → Turn
@@ -157,6 +158,7 @@ known_after_deed k (Begins write) line known = record known { announced = None }
 abbrev pub known_after : Kind → Turn → TraceLine → HostKnown → HostKnown
 known_after k (Does deed) line known = known_after_deed k deed line known
 known_after k (Uses width) line known = record known { lines = width }
+known_after k (Resumes rca lines) line known = known_running rca lines
 known_after k turn line known = known
 
 -- WHAT THE TABLES SEE of a line, at a card with or without a pending switch error

@@ -1,24 +1,27 @@
 //! Audits: line by line, the shapes at which a card may stand.
 
-ghost use Rattle.std.specs.Prelude.{◌≡◌, ◌↔◌, IsTrue, IfOk, IfErr, OnOk, OnErr, IfSome, MatchOption, List, [], ◌∷◌, true, false, None};
+ghost use Rattle.std.specs.Prelude.{◌≡◌, ◌↔◌, ◌⊎◌, ◌&&◌, ◌||◌, not, if◌then◌else◌, IsTrue, IfOk, IfErr, OnOk, OnErr, IfSome, MatchOption, List, [], ◌∷◌, true, false, None};
 ghost use Rattle.sdv_card.specs.declared.shape.Shape.{Shape as CardShape};
 ghost use Rattle.sdv_card.specs.Lists.{May};
 ghost use Rattle.sdv_audit.specs.declared.turn.Told.{Told as TraceTold};
+ghost use Rattle.sdv_audit.specs.declared.turn.Turn.TheVariants.{Does};
 ghost use Rattle.sdv_audit.specs.Turns.{turn_of, known_after};
-ghost use Rattle.sdv_audit.specs.Carried.{Follows};
+ghost use Rattle.sdv_audit.specs.Carried.{AnyBehind, Follows};
 ghost use Rattle.sdv_audit.specs.Beyond.{NoneInBounds};
 ghost use Rattle.sdv_audit.specs.Standing.{start_set, NoneAnswers};
-ghost use Rattle.sdv_audit.specs.Course.{Course, IsAt, SameMembers, GoesOn, GoesAnew, FindsOn, Finds, begun, least_illegal, goes_on, goes_anew, course_after};
+ghost use Rattle.sdv_audit.specs.Course.{Course, IsAt, SameMembers, GoesOn, GoesAnew, GoesAgain, GoesHere, FindsOn, FindsAgain, FindsHere, Finds, any_state, begun, begun_at, is_resumed, reckless_at, goes_on, goes_anew, goes_again, course_here, course_after};
 ghost use Rattle.sdv_audit.specs.Room.{AreMany};
-ghost use Rattle.sdv_audit.specs.Audited.{is_empty, Stands, StandsOn, NoneAnswersThere, IsRecklessThere, AllBeyond, AllLegal, IsIllegalAt, is_unanswered, is_reset, restarts, lines_told, Behind};
+ghost use Rattle.sdv_audit.specs.Audited.{is_empty, Stands, StandsOn, NoneAnswersThere, IsRecklessThere, IsForbiddenThere, AllBeyond, NotReckless, IsForbidden, IsIllegalAt, is_unanswered, is_reset, restarts, lines_told, running_told, is_event, address_in, address_named, address_told, is_other_address, resumes, Behind, NoneAnswersBehind, Followed};
 
 use crate::bounds::{all_beyond, all_within};
 use crate::fault::AuditFault;
 use crate::known::HostKnown;
 use crate::line::TraceLine;
-use crate::shapes::{Evidence, carried, least_illegal, with_lines};
+use crate::running::any_shapes;
+use crate::shapes::{Evidence, carried, is_forbidden, least_illegal, with_lines};
 use crate::turn::{Deed, Told, Turn, is_expected};
-use sdv_card::{Event, START_SHAPES, Shape};
+use sdv_card::{Event, START_SHAPES, Shape, Width};
+use sdv_frames::Command;
 use sdv_registers::Kind;
 use std::alloc::Global;
 
@@ -36,12 +39,14 @@ pub struct Findings {
     pub beyond: bool,
     /// The audit waited for a CMD0, and began anew at this one.
     pub restarted: bool,
+    /// The audit went on from any state of a card.
+    pub resumed: bool,
 }
 
 /// An audit of a trace, as far as it has come.
 ///
-/// It keeps the shapes at which a card may stand that answered so at legal events. Where there is none it waits for a
-/// CMD0, and begins anew there, as before the first command.
+/// It keeps the shapes at which a card may stand that answered so at legal events. Where there is none it goes on at the
+/// next event from any state, or begins anew at a CMD0, as before the first command.
 #[derive(Drop)]
 pub struct Audit {
     alloc: Global,
@@ -51,6 +56,8 @@ pub struct Audit {
     // At each shape, each address so far is that of blocks of some card of the profile, also with the greatest count where no
     // line told it, and no count was untold that a preset count demands.
     bounded: bool,
+    // The card could be in any state, before some line.
+    running: bool,
 }
 
 impl Audit {
@@ -71,6 +78,44 @@ impl Audit {
             known: HostKnown::nothing(),
             shapes: Vec::from_slice(alloc, &START_SHAPES)?,
             bounded: true,
+            running: false,
+        })
+    }
+
+    /// An audit of a trace before its first line, which begins in a running system or not. Where it does, nothing is followed
+    /// yet, and until a line names the relative card address it is 1.
+    ///
+    /// # Errors
+    ///
+    /// Where memory runs out.
+    pub fn first(alloc: Global, kind: Kind, running: bool) -> Result<Audit, AuditFault>
+        ensures kind { IfOk result (λ audit. audit.kind ≡ kind) }
+        ensures begun { IfOk result (λ audit. IsAt audit (begun_at running)) }
+        ensures memory { IfErr result (λ fault. fault ≡ AuditFault.Memory) }
+    {
+        let mut audit = Audit::new(alloc, kind)?;
+        if running {
+            audit.known = HostKnown::running(1, Width::One);
+            audit.shapes = Vec::new(alloc);
+        }
+        Ok(audit)
+    }
+
+    /// An audit of a card in any state, with the relative address and the data lines of its host.
+    fn any_state(alloc: Global, kind: Kind, rca: u16, lines: Width) -> Result<Audit, AuditFault>
+        ensures kind { IfOk result (λ audit. audit.kind ≡ kind) }
+        ensures stands { IfOk result (λ audit. Stands audit (running_told rca lines ∷ [])) }
+        ensures course { IfOk result (λ audit. IsAt audit (any_state kind rca lines)) }
+        ensures memory { IfErr result (λ fault. fault ≡ AuditFault.Memory) }
+    {
+        let shapes = any_shapes(alloc, kind, lines)?;
+        Ok(Audit {
+            alloc,
+            kind,
+            known: HostKnown::running(rca, lines),
+            shapes,
+            bounded: false,
+            running: true,
         })
     }
 
@@ -103,6 +148,13 @@ impl Audit {
         self.bounded
     }
 
+    /// The card could be in any state, before some line that the next one is judged by.
+    pub fn is_running(&self) -> bool
+        ensures { result ≡ self.now.running }
+    {
+        self.running
+    }
+
     /// The shapes after a line.
     fn after(&self, turn: &Turn, line: &TraceLine) -> Result<Vec<Shape>, AuditFault>
         ensures members { IfOk result (λ all. (s : CardShape) → May all.items s ↔
@@ -123,21 +175,50 @@ impl Audit {
                 carried(self.alloc, self.shapes.as_slice(), at, deed)
             }
             Turn::Uses(width) => with_lines(self.alloc, self.shapes.as_slice(), *width),
+            Turn::Resumes { lines, .. } => self.any_behind(*lines),
             Turn::OtherLength { .. } => Ok(Vec::new(self.alloc)),
             Turn::Ends | Turn::Outside => Ok(Vec::from_slice(self.alloc, self.shapes.as_slice())?),
         }
     }
 
-    /// The least shape at which what the host does is not legal.
+    /// The shapes of a card in any state, where there is a shape.
+    fn any_behind(&self, lines: Width) -> Result<Vec<Shape>, AuditFault>
+        ensures members { IfOk result (λ all. (s : CardShape) → May all.items s ↔
+            AnyBehind self.now.kind lines self.now.shapes.items s) }
+        ensures memory { IfErr result (λ fault. fault ≡ AuditFault.Memory) }
+    {
+        if self.waits() {
+            return Ok(Vec::new(self.alloc));
+        }
+        let all = any_shapes(self.alloc, self.kind, lines)?;
+        Ok(all)
+    }
+
+    /// The least shape at which what the host does is not legal. Where the card could be in any state, there is one only if
+    /// no shape allows it.
     fn reckless(&self, turn: &Turn) -> Option<Shape>
-        ensures found { MatchOption result (AllLegal self.now turn.now) (IsIllegalAt self.now turn.now) }
+        ensures found { MatchOption result (NotReckless self.now turn.now) (IsIllegalAt self.now turn.now) }
+        ensures forbidden { IfSome result (IsForbidden self.now turn.now) }
         ensures least { (shapes : List CardShape) → SameMembers self.now.shapes.items shapes →
-            result ≡ least_illegal self.now.kind turn.now shapes }
+            result ≡ reckless_at self.now.running self.now.kind turn.now shapes }
     {
         match turn {
-            Turn::Does(deed) => least_illegal(self.kind, self.shapes.as_slice(), deed),
+            Turn::Does(deed) => self.illegal(deed),
             _ => None,
         }
+    }
+
+    /// So it is with what the host does.
+    fn illegal(&self, deed: &Deed) -> Option<Shape>
+        ensures found { MatchOption result (NotReckless self.now (Does deed.now)) (IsIllegalAt self.now (Does deed.now)) }
+        ensures forbidden { IfSome result (IsForbidden self.now (Does deed.now)) }
+        ensures least { (shapes : List CardShape) → SameMembers self.now.shapes.items shapes →
+            result ≡ reckless_at self.now.running self.now.kind (Does deed.now) shapes }
+    {
+        let shapes = self.shapes.as_slice();
+        let forbidden = is_forbidden(self.kind, shapes, deed);
+        let least = least_illegal(self.kind, shapes, deed);
+        left(self.running, forbidden, least)
     }
 
     /// There are shapes, and at each of them the address is beyond what the CSD tells.
@@ -154,8 +235,9 @@ impl Audit {
         ensures kind { self.new.kind ≡ self.old.kind }
         ensures stands { OnOk result (StandsOn self.old self.new told.now) }
         ensures reckless { IfOk result (λ found.
-            MatchOption found.reckless (AllLegal self.old found.turn) (IsIllegalAt self.old found.turn)) }
+            MatchOption found.reckless (NotReckless self.old found.turn) (IsIllegalAt self.old found.turn)) }
         ensures real { IfOk result (λ found. IfSome found.reckless (IsRecklessThere self.old found.turn)) }
+        ensures forbidden { IfOk result (λ found. IfSome found.reckless (IsForbiddenThere self.old told.now)) }
         ensures exactly { IfOk result (λ found.
             found.unanswered ≡ is_unanswered found.reckless self.old.shapes.items self.new.shapes.items) }
         ensures unanswered { IfOk result (λ found. found.unanswered ≡ true → NoneAnswersThere self.old told.now) }
@@ -163,7 +245,7 @@ impl Audit {
             ((is_empty self.old.shapes.items ≡ false) × AllBeyond self.old found.turn told.now.line)) }
         ensures beyond { IfOk result (λ found. found.beyond ≡ true → (past : List TraceTold) → Stands self.old past →
             NoneInBounds self.old.kind past told.now) }
-        ensures going_on { IfOk result (λ found. found.restarted ≡ false) }
+        ensures going_on { IfOk result (λ found. (found.restarted ≡ false) × (found.resumed ≡ false)) }
         ensures found { IfOk result (FindsOn self.old told.now) }
         ensures course { OnOk result (GoesOn self.old self.new told.now) }
         ensures same { OnErr result (self.new ≡ self.old) }
@@ -178,6 +260,7 @@ impl Audit {
         self.bounded = self.bounded
             && all_within(self.kind, self.shapes.as_slice(), &turn, &told.line);
         self.known = self.known.after_line(self.kind, &turn, &told.line);
+        self.running = either(self.running, is_resumed(&turn));
         self.shapes = shapes;
         Ok(Findings {
             turn,
@@ -185,6 +268,7 @@ impl Audit {
             unanswered,
             beyond,
             restarted: false,
+            resumed: false,
         })
     }
 
@@ -192,7 +276,7 @@ impl Audit {
     fn restarts(&self, told: &Told) -> bool
         ensures { result ≡ restarts self.now told.now }
     {
-        self.shapes.is_empty() && is_reset(&told.turn(self.kind, &self.known))
+        (self.shapes.is_empty() || self.running) && is_reset(&told.turn(self.kind, &self.known))
     }
 
     /// The audit from this CMD0 on, and what it finds there: CMD0 is legal at each card, and has no address.
@@ -201,7 +285,7 @@ impl Audit {
         ensures stands { IfOk result (λ x. Stands x.0 (told.now ∷ lines_told self.now.known.lines ∷ [])) }
         ensures turn { IfOk result (λ x. x.1.turn ≡ turn_of self.now.kind self.now.known told.now) }
         ensures unanswered { IfOk result (λ x. x.1.unanswered ≡ is_empty x.0.shapes.items) }
-        ensures restarted { IfOk result (λ x. x.1.restarted ≡ true) }
+        ensures restarted { IfOk result (λ x. (x.1.restarted ≡ true) × (x.1.resumed ≡ false)) }
         ensures legal { IfOk result (λ x. x.1.reckless ≡ None) }
         ensures bounds { IfOk result (λ x. x.1.beyond ≡ false) }
         ensures course { IfOk result (λ x. GoesAnew self.now x.0 told.now) }
@@ -223,14 +307,66 @@ impl Audit {
             unanswered: audit.shapes.is_empty(),
             beyond: false,
             restarted: true,
+            resumed: false,
         };
         Ok((audit, findings))
     }
 
+    /// The line is an event for which no shape is left, or names another address than a host had beside a card in any state.
+    fn resumes(&self, told: &Told) -> bool
+        ensures { result ≡ resumes self.now told.now }
+    {
+        (self.shapes.is_empty() && is_event(&told.line))
+            || (self.running && is_other_address(&told.line, &self.known))
+    }
+
+    /// The audit from any state on, and what it finds at this line.
+    fn again(&self, told: &Told) -> Result<(Audit, Findings), AuditFault>
+        ensures kind { IfOk result (λ x. x.0.kind ≡ self.now.kind) }
+        ensures stands { IfOk result (λ x. (past : List TraceTold) → Behind false true self.now told.now past →
+            Stands x.0 (told.now ∷ past)) }
+        ensures resumed { IfOk result (λ x. (x.1.restarted ≡ false) × (x.1.resumed ≡ true)) }
+        ensures forbidden { IfOk result (λ x. IfSome x.1.reckless (λ s. NoneAnswersBehind true self.now told.now)) }
+        ensures unanswered { IfOk result (λ x. x.1.unanswered ≡ true → NoneAnswersBehind true self.now told.now) }
+        ensures found { IfOk result (λ x. FindsAgain self.now told.now x.1) }
+        ensures course { IfOk result (λ x. GoesAgain self.now x.0 told.now) }
+        ensures room { IfErr result (λ fault. fault ≡ AuditFault.Room → (c : Course) → IsAt self.now c →
+            AreMany (May (goes_again self.now.kind told.now c).shapes)) }
+    {
+        let rca = address_told(&told.line, &self.known);
+        let mut audit = Audit::any_state(self.alloc, self.kind, rca, self.known.lines)?;
+        let found = audit.advance(told)?;
+        Ok((
+            audit,
+            Findings {
+                resumed: true,
+                ..found
+            },
+        ))
+    }
+
+    /// Takes in a line that is no CMD0 at which the audit begins anew.
+    fn follow(&mut self, told: &Told) -> Result<Findings, AuditFault>
+        ensures kind { self.new.kind ≡ self.old.kind }
+        ensures followed { IfOk result (Followed self.old self.new told.now) }
+        ensures found { IfOk result (FindsHere self.old told.now) }
+        ensures course { OnOk result (GoesHere self.old self.new told.now) }
+        ensures same { OnErr result (self.new ≡ self.old) }
+        ensures room { IfErr result (λ fault. fault ≡ AuditFault.Room → (c : Course) → IsAt self.old c →
+            AreMany (May (course_here self.old.kind told.now c).shapes)) }
+    {
+        if !self.resumes(told) {
+            return self.advance(told);
+        }
+        let (audit, findings) = self.again(told)?;
+        *self = audit;
+        Ok(findings)
+    }
+
     /// Takes in a line.
     ///
-    /// Where no shape is left, the audit waits for a CMD0. There it begins anew, as before the first command, with the
-    /// data lines that the host uses.
+    /// Where no shape is left, the audit goes on at the next event from any state: with the address that the line names, or
+    /// that of the host. At a CMD0 it begins anew, as before the first command, with the data lines that the host uses.
     ///
     /// # Errors
     ///
@@ -238,21 +374,11 @@ impl Audit {
     pub fn next(&mut self, told: &Told) -> Result<Findings, AuditFault>
         ensures kind { self.new.kind ≡ self.old.kind }
         ensures restarted { IfOk result (λ found. found.restarted ≡ restarts self.old told.now) }
-        ensures stands { IfOk result (λ found. (past : List TraceTold) → Behind found.restarted self.old past →
-            Stands self.new (told.now ∷ past)) }
-        ensures turn { IfOk result (λ found. found.turn ≡ turn_of self.old.kind self.old.known told.now) }
-        ensures reckless { IfOk result (λ found. found.restarted ≡ false →
-            MatchOption found.reckless (AllLegal self.old found.turn) (IsIllegalAt self.old found.turn)) }
-        ensures real { IfOk result (λ found. found.restarted ≡ false →
-            IfSome found.reckless (IsRecklessThere self.old found.turn)) }
-        ensures exactly { IfOk result (λ found. found.restarted ≡ false →
-            found.unanswered ≡ is_unanswered found.reckless self.old.shapes.items self.new.shapes.items) }
+        ensures stands { IfOk result (λ found. (past : List TraceTold) →
+            Behind found.restarted found.resumed self.old told.now past → Stands self.new (told.now ∷ past)) }
         ensures unanswered { IfOk result (λ found. found.unanswered ≡ true → (past : List TraceTold) →
-            Behind found.restarted self.old past → NoneAnswers self.old.kind (told.now ∷ past)) }
-        ensures passed { IfOk result (λ found. found.restarted ≡ false → IsTrue found.beyond ↔
-            ((is_empty self.old.shapes.items ≡ false) × AllBeyond self.old found.turn told.now.line)) }
-        ensures beyond { IfOk result (λ found. found.restarted ≡ false → found.beyond ≡ true → (past : List TraceTold) →
-            Stands self.old past → NoneInBounds self.old.kind past told.now) }
+            Behind found.restarted found.resumed self.old told.now past → NoneAnswers self.old.kind (told.now ∷ past)) }
+        ensures followed { IfOk result (λ found. found.restarted ≡ false → Followed self.old self.new told.now found) }
         ensures anew { IfOk result (λ found. found.restarted ≡ true → (found.reckless ≡ None) × (found.beyond ≡ false)
             × (found.unanswered ≡ is_empty self.new.shapes.items)) }
         ensures found { IfOk result (Finds self.old told.now) }
@@ -263,7 +389,7 @@ impl Audit {
             AreMany (May (course_after self.old.kind told.now c).shapes)) }
     {
         if !self.restarts(told) {
-            return self.advance(told);
+            return self.follow(told);
         }
         let (audit, findings) = self.anew(told)?;
         *self = audit;
@@ -276,6 +402,74 @@ fn is_unanswered(reckless: Option<Shape>, before: &[Shape], after: &[Shape]) -> 
     ensures { result ≡ is_unanswered reckless before.now after.now }
 {
     after.is_empty() && reckless.is_none() && !before.is_empty()
+}
+
+/// The shape that a line names: none, where the card could be in any state and some shape allows the event.
+fn left(running: bool, forbidden: bool, least: Option<Shape>) -> Option<Shape>
+    ensures { result ≡ (if running && not forbidden then None else least) }
+{
+    if running && !forbidden { None } else { least }
+}
+
+fn either(a: bool, b: bool) -> bool
+    ensures { result ≡ (a || b) }
+{
+    a || b
+}
+
+/// The turn forgets what came before.
+fn is_resumed(turn: &Turn) -> bool
+    ensures { result ≡ is_resumed turn.now }
+{
+    matches!(turn, Turn::Resumes { .. })
+}
+
+/// An event of a host, but no phase of a register: nothing tells its length.
+fn is_event(line: &TraceLine) -> bool
+    ensures { result ≡ is_event line.now }
+{
+    matches!(
+        line,
+        TraceLine::Exchange { .. }
+            | TraceLine::BlocksIn { .. }
+            | TraceLine::BlocksOut { .. }
+            | TraceLine::Wait { .. }
+    )
+}
+
+/// The relative address that a line names, or 0.
+fn address_named(line: &TraceLine) -> u16
+    ensures { result ≡ address_named line.now }
+{
+    match line {
+        TraceLine::Exchange { command, .. } => address_in(*command),
+        _ => 0,
+    }
+}
+
+fn address_in(command: Command) -> u16
+    ensures { result ≡ address_in command.index command.argument }
+{
+    match command.index {
+        7 | 9 | 10 | 13 | 55 if command.argument % 65_536 == 0 => (command.argument >> 16) as u16,
+        _ => 0,
+    }
+}
+
+/// The relative address of the host from this line on.
+fn address_told(line: &TraceLine, known: &HostKnown) -> u16
+    ensures { result ≡ address_told line.now known.now }
+{
+    let named = address_named(line);
+    if named == 0 { known.rca } else { named }
+}
+
+/// The line names another relative address than the host has.
+fn is_other_address(line: &TraceLine, known: &HostKnown) -> bool
+    ensures { result ≡ is_other_address line.now known.now }
+{
+    let named = address_named(line);
+    named != 0 && named != known.rca
 }
 
 /// The turn is a CMD0.

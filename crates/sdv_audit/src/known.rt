@@ -1,7 +1,7 @@
 //! What a trace tells of its host.
 
 ghost use Rattle.std.specs.Prelude.{◌≡◌};
-ghost use Rattle.sdv_audit.specs.Known.{nothing_known, announced_told, known_after_order};
+ghost use Rattle.sdv_audit.specs.Known.{nothing_known, known_running, announced_told, known_after_order};
 
 use sdv_card::{Answer, Order, Width};
 
@@ -30,6 +30,19 @@ impl HostKnown {
             lines: Width::One,
             csd: None,
             announced: Some(0),
+            register_length: 0,
+        }
+    }
+
+    /// Where only the relative card address and the data lines are known: no register is on its way.
+    pub fn running(rca: u16, lines: Width) -> HostKnown
+        ensures { result ≡ known_running rca lines }
+    {
+        HostKnown {
+            rca,
+            lines,
+            csd: None,
+            announced: None,
             register_length: 0,
         }
     }

@@ -44,6 +44,14 @@ pub enum TraceLine {
         /// The data lines.
         width: Width,
     },
+    /// No line of a text: an audit puts it in where it does not know what came before. From here on there may be any card
+    /// with this relative address, in any state, beside a host that uses these data lines.
+    Running {
+        /// The relative card address.
+        rca: u16,
+        /// The data lines.
+        lines: Width,
+    },
     /// The run ended.
     End,
 }

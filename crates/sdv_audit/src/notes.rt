@@ -1,11 +1,11 @@
 //! The notes on the lines of a trace: which there are, and how each is printed around its words.
 
 ghost use Rattle.std.specs.Prelude.{◌≡◌, ◌++◌, IfOk, OnOk, ℕ, List};
-ghost use Rattle.sdv_audit.specs.Notes.{HasNotes, count_and, end_front, end_note, ending, is_noted, json_findings, json_rest, json_summary, lead, lost_note, name, note_end, note_front, note_if, note_text, notes_at, plain_findings, plain_rest, plain_summary, shown, summary};
+ghost use Rattle.sdv_audit.specs.Notes.{HasNotes, count_and, end_front, end_note, ending, is_noted, json_bool, json_findings, json_member, json_premises, json_rest, json_summary, lead, lost_note, name, note_end, note_front, note_if, note_text, notes_at, plain_findings, plain_rest, plain_summary, shown, summary};
 
 use crate::audit::Findings;
 use crate::line::TraceLine;
-use crate::style::{Style, Tally, is_other_length, is_outside};
+use crate::style::{Premises, Style, Tally, is_other_length, is_outside};
 use crate::texts::Count;
 use crate::words::{Before, words};
 use sdv_telling::{Text, put, put_all, put_number, put_numbered, put_quoted};
@@ -19,6 +19,8 @@ pub enum Topic {
     States,
     /// The audit begins anew.
     Anew,
+    /// The audit goes on from any state.
+    Resumed,
     /// The line is outside the tables.
     Outside,
     /// The host was reckless.
@@ -32,9 +34,10 @@ pub enum Topic {
 }
 
 /// All topics, in the order of their notes.
-pub const TOPICS: [Topic; 7] = [
+pub const TOPICS: [Topic; 8] = [
     Topic::States,
     Topic::Anew,
+    Topic::Resumed,
     Topic::Outside,
     Topic::Reckless,
     Topic::Unanswered,
@@ -43,6 +46,8 @@ pub const TOPICS: [Topic; 7] = [
 ];
 
 const BEGINS_ANEW: &str = "the audit begins anew";
+
+const ANY_STATE: &str = "before it the card may be in any state";
 
 const IS_OUTSIDE: &str = "outside the tables; the audit goes on as if it had not come";
 
@@ -64,6 +69,7 @@ impl Topic {
         match self {
             Topic::States => "states",
             Topic::Anew => "anew",
+            Topic::Resumed => "any_state",
             Topic::Outside => "outside",
             Topic::Reckless => "reckless",
             Topic::Unanswered => "unanswered",
@@ -79,6 +85,7 @@ impl Topic {
         match self {
             Topic::States => "",
             Topic::Anew => BEGINS_ANEW,
+            Topic::Resumed => ANY_STATE,
             Topic::Outside => IS_OUTSIDE,
             Topic::Reckless => MAY_BE_IN,
             Topic::Unanswered => NO_CARD,
@@ -94,6 +101,7 @@ impl Topic {
         match self {
             Topic::States => style.annotate,
             Topic::Anew => found.restarted,
+            Topic::Resumed => found.resumed,
             Topic::Outside => is_outside(&found.turn),
             Topic::Reckless => found.reckless.is_some(),
             Topic::Unanswered => found.unanswered && !is_other_length(&found.turn),
@@ -123,18 +131,45 @@ pub struct Place<'a> {
     pub number: u64,
     /// The line.
     pub line: &'a TraceLine,
+    /// What is said of it rests on these.
+    pub premises: Premises,
+}
+
+fn json_bool(is: bool) -> &'static str
+    ensures { result.now ≡ json_bool is }
+{
+    if is { "true" } else { "false" }
+}
+
+/// Adds a member that is true or false.
+fn put_bool(text: &mut Text, front: &str, is: bool) -> Result<(), AllocError>
+    ensures { OnOk result (text.new.items ≡ text.old.items ++ json_member front.now is) }
+{
+    put(text, front)?;
+    put(text, json_bool(is))
+}
+
+/// Adds what is said of a line rests on.
+fn put_premises(text: &mut Text, premises: Premises) -> Result<(), AllocError>
+    ensures { OnOk result (text.new.items ≡ text.old.items ++ json_premises premises) }
+{
+    put_bool(text, ",\"any_state\":", premises.any_state)?;
+    put_bool(text, ",\"bounded\":", premises.bounded)?;
+    put_bool(text, ",\"outside_before\":", premises.outside_before)
 }
 
 /// Adds what stands before the words of a note.
 fn put_front(text: &mut Text, at: Place<'_>, topic: Topic) -> Result<(), AllocError>
     ensures { OnOk result (text.new.items ≡ text.old.items ++
-        note_front at.entry.style (record { number = at.entry.number; line = at.entry.line.now; topic = topic })) }
+        note_front at.entry.style (record { number = at.entry.number; line = at.entry.line.now; topic = topic; premises = at.entry.premises })) }
 {
     let shown = topic.shown(at.line);
     if at.style.json {
         put_numbered(text, "{\"line\":", at.number, ",\"told\":\"")?;
         text.extend_from_slice(shown.as_slice())?;
-        put_all(text, &["\",\"finding\":\"", topic.name(), "\",\"text\":\""])
+        put_all(text, &["\",\"finding\":\"", topic.name(), "\""])?;
+        put_premises(text, at.premises)?;
+        put(text, ",\"text\":\"")
     } else {
         put_numbered(text, "line ", at.number, ": ")?;
         text.extend_from_slice(shown.as_slice())?;
@@ -152,7 +187,7 @@ fn note_end(style: Style) -> &'static str
 /// Adds a note with its words.
 fn put_note(text: &mut Text, at: Place<'_>, topic: Topic, words: &[u8]) -> Result<(), AllocError>
     ensures { OnOk result (text.new.items ≡ text.old.items ++ note_text at.entry.style
-        (record { number = at.entry.number; line = at.entry.line.now; topic = topic }) words.now) }
+        (record { number = at.entry.number; line = at.entry.line.now; topic = topic; premises = at.entry.premises }) words.now) }
 {
     put_front(text, at, topic)?;
     put(text, topic.lead())?;
@@ -170,7 +205,7 @@ fn put_topic(
 ) -> Result<(), AllocError>
     ensures { OnOk result ((more : List ℕ) × (text.new.items ≡ text.old.items ++ more) × HasNotes at.entry.style
         (note_if (is_noted at.entry.style found.now topic)
-        (record { number = at.entry.number; line = at.entry.line.now; topic = topic })) more) }
+        (record { number = at.entry.number; line = at.entry.line.now; topic = topic; premises = at.entry.premises })) more) }
 {
     if !topic.is_noted(at.style, found) {
         return Ok(());
@@ -187,7 +222,7 @@ pub fn notes_text(
     topics: &[Topic],
 ) -> Result<Text, AllocError>
     ensures { IfOk result (λ text. HasNotes at.entry.style
-        (notes_at at.entry.style at.entry.number at.entry.line.now found.now topics.now) text.items) }
+        (notes_at at.entry.style at.entry.number at.entry.line.now at.entry.premises found.now topics.now) text.items) }
 {
     let mut text = Vec::new(at.alloc);
     for topic in topics {

@@ -9,7 +9,7 @@ use crate::audit::{Audit, Findings};
 use crate::fault::NoteFault;
 use crate::line::TraceLine;
 use crate::notes::{Place, TOPICS, notes_text, put_ending};
-use crate::style::{Style, Tally};
+use crate::style::{Premises, Style, Tally};
 use crate::texts::Count;
 use crate::turn::{Deed, Told, Turn};
 use crate::words::{Before, put_standing};
@@ -38,14 +38,14 @@ impl Report {
     pub fn new(alloc: Global, kind: Kind, style: Style) -> Result<Report, NoteFault>
         ensures kind { IfOk result (λ report. report.kind ≡ kind) }
         ensures style { IfOk result (λ report. report.style ≡ style) }
-        ensures start { IfOk result (λ report. ReportAt report at_start) }
+        ensures start { IfOk result (λ report. ReportAt report (at_start style)) }
         ensures memory { IfErr result (λ fault. fault ≡ NoteFault.Memory) }
     {
         Ok(Report {
             alloc,
             kind,
             style,
-            audit: Audit::new(alloc, kind)?,
+            audit: Audit::first(alloc, kind, style.running)?,
             tally: Tally::nothing(),
             csd_line: 0,
         })
@@ -67,6 +67,7 @@ impl Report {
             csd: self.audit.known().csd,
             csd_line: self.csd_line,
             bounded: self.audit.is_bounded(),
+            any_state: self.audit.is_running(),
             behind: self.tally.outside != 0,
             stretch: self.tally.stretch,
             states,
@@ -86,19 +87,22 @@ impl Report {
         ensures room { IfErr result (λ fault. fault ≡ NoteFault.Room → (p : Progress) → ReportAt self.old p →
             AreMany (May (progress_after self.old.kind self.old.style p told.now).course.shapes)) }
     {
+        let states = self.states()?;
+        let shapes = Vec::from_slice(self.alloc, self.audit.shapes())?;
+        let before = self.before(&states, &shapes);
+        let waits = self.audit.waits();
+        let running = self.audit.is_running();
+        let bounded = self.audit.is_bounded();
+        let found = self.audit.next(told)?;
         let at = Place {
             alloc: self.alloc,
             style: self.style,
             number,
             line: &told.line,
+            premises: Premises::of(running, bounded, self.tally.outside, &found),
         };
-        let states = self.states()?;
-        let shapes = Vec::from_slice(self.alloc, self.audit.shapes())?;
-        let before = self.before(&states, &shapes);
-        let waits = self.audit.waits();
-        let found = self.audit.next(told)?;
         let text = notes_text(at, &found, &before, &TOPICS)?;
-        self.csd_line = csd_line_after(at.number, &found, &told.line, self.csd_line);
+        self.csd_line = csd_line_after(number, &found, &told.line, self.csd_line);
         let numbered = self.style.numbers(&told.line);
         self.tally = self.tally.after(numbered, waits, &found);
         match write_text(out, text.as_slice()) {

@@ -18,7 +18,7 @@ impl TraceLine {
             TraceLine::RegisterIn { end, .. } => end.seen(),
             TraceLine::BlocksOut { end, .. } => end.seen(),
             TraceLine::Wait { end } => end.seen(),
-            TraceLine::Lines { .. } | TraceLine::End => Seen::Sent,
+            TraceLine::Lines { .. } | TraceLine::Running { .. } | TraceLine::End => Seen::Sent,
         }
     }
 }

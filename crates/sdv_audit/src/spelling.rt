@@ -66,6 +66,7 @@ impl TraceLine {
             TraceLine::Wait { end: WaitEnd::Ok } => spelled(b"WAIT ok"),
             TraceLine::Wait { end: WaitEnd::Late } => spelled(b"WAIT late"),
             TraceLine::Lines { width } => lines(*width),
+            TraceLine::Running { .. } => spelled(b"running"),
             TraceLine::End => spelled(b"done"),
         }
     }

@@ -1,7 +1,7 @@
 //! How a report is printed, and what it counts.
 
 ghost use Rattle.std.specs.Prelude.{◌≡◌};
-ghost use Rattle.sdv_audit.specs.Notes.{is_reckless, is_outside, is_other_length, counted, has_number, is_lost, stretch_after, tally_after, no_tally, has_findings};
+ghost use Rattle.sdv_audit.specs.Notes.{is_reckless, is_outside, is_other_length, counted, has_number, is_lost, stretch_after, tally_after, no_tally, has_findings, premises_of};
 
 use crate::audit::Findings;
 use crate::line::TraceLine;
@@ -16,6 +16,8 @@ pub struct Style {
     pub annotate: bool,
     /// The lines `LINES n` were put into the trace: they have no number of their own, and are not counted.
     pub put_in: bool,
+    /// The trace begins in a running system: the card may be in any state before its first line.
+    pub running: bool,
 }
 
 impl Style {
@@ -26,6 +28,30 @@ impl Style {
         match line {
             TraceLine::Lines { .. } => !self.put_in,
             _ => true,
+        }
+    }
+}
+
+/// What is said of a line rests on these.
+#[derive(Clone, Copy, Debug, PartialEq, Eq)]
+pub struct Premises {
+    /// The card could be in any state, before this line or one before it.
+    pub any_state: bool,
+    /// Each address so far lay on some card, and each count that mattered was told.
+    pub bounded: bool,
+    /// A line outside the tables came before it.
+    pub outside_before: bool,
+}
+
+impl Premises {
+    /// Where an audit that is running and bounded, or not, finds this behind so many lines outside the tables.
+    pub(crate) fn of(running: bool, bounded: bool, outside: u64, found: &Findings) -> Premises
+        ensures { result ≡ premises_of running bounded outside found.now }
+    {
+        Premises {
+            any_state: found.resumed || (running && !found.restarted),
+            bounded: found.restarted || (bounded && !found.resumed),
+            outside_before: outside != 0,
         }
     }
 }
@@ -103,7 +129,7 @@ impl Tally {
 fn is_lost(waits: bool, found: &Findings) -> bool
     ensures { result ≡ is_lost waits found.now }
 {
-    waits && !found.restarted
+    waits && !(found.restarted || found.resumed)
 }
 
 /// How many lines of a stretch are not followed.

@@ -42,6 +42,13 @@ pub enum Turn {
     Outside,
     /// The host uses these data lines from here on.
     Uses(Width),
+    /// From here on there may be any card with this relative address, beside a host that uses these data lines.
+    Resumes {
+        /// The relative card address.
+        rca: u16,
+        /// The data lines.
+        lines: Width,
+    },
     /// A data phase has another length than was announced.
     OtherLength {
         /// The blocks or bytes that were announced.
@@ -234,6 +241,7 @@ impl Told {
                     Turn::Outside
                 }
             }
+            TraceLine::Running { rca, lines } => Turn::Resumes { rca, lines },
             TraceLine::End => Turn::Ends,
         }
     }
@@ -278,6 +286,7 @@ impl HostKnown {
                 lines: *width,
                 ..*self
             },
+            Turn::Resumes { rca, lines } => HostKnown::running(*rca, *lines),
             _ => *self,
         }
     }

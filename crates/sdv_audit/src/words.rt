@@ -22,6 +22,8 @@ pub struct Before<'a> {
     pub csd_line: u64,
     /// Each shape at which a card may stand is that of a real card.
     pub bounded: bool,
+    /// The card could be in any state, before this line or one before it.
+    pub any_state: bool,
     /// A line outside the tables was among the lines.
     pub behind: bool,
     /// The lines right before it that are not followed.
@@ -48,6 +50,7 @@ pub fn words(
             put_stretch(&mut text, before.stretch)?;
             return Ok(text);
         }
+        Topic::Resumed => return Ok(text),
         Topic::Reckless => put_reckless(&mut text, found, before)?,
         Topic::Unanswered => put_unanswered(&mut text, alloc, line, found, before)?,
         Topic::Length => put_due(&mut text, &found.turn)?,
@@ -83,6 +86,9 @@ fn put_reckless(text: &mut Text, found: &Findings, before: &Before<'_>) -> Resul
         None => put(text, "no state of a card")?,
     }
     put_illegal(text, before.kind, &found.turn, shape)?;
+    if before.any_state || found.resumed {
+        return put(text, " (no state that is left allows it)");
+    }
     if before.bounded {
         return Ok(());
     }
@@ -167,7 +173,10 @@ const STATES: [u8; 9] = [0, 1, 2, 3, 4, 5, 6, 7, 8];
 /// Adds the states at which a card may stand, or that the audit waits for a CMD0.
 pub fn put_standing(text: &mut Text, shapes: &[Shape]) -> Result<(), AllocError> {
     if shapes.is_empty() {
-        return put(text, "waits for CMD0");
+        return put(text, "in any state");
+    }
+    if STATES.iter().all(|number| is_among(shapes, *number)) {
+        return put(text, "in any state");
     }
     let mut sign = "in ";
     for number in &STATES {

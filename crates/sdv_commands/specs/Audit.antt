@@ -29,7 +29,8 @@ pub record AuditsReader (kind : Kind) (style : Style) (trace : Option (List ℕ)
   pub outcome_is : outcome ≡ ended_by result
 
 abbrev pub style_of : AuditNames → Style
-style_of names = record { json = names.json; annotate = names.annotate; put_in = false }
+style_of names =
+    record { json = names.json; annotate = names.annotate; put_in = false; running = names.running }
 
 -- the file of this name could not be opened or read
 abbrev pub IsUnread : Files → (wanted : Text) → Option Fault → Type 0

@@ -48,7 +48,7 @@ fault_of_audit audits.Memory = Memory
 -- THE REPORT on the trace
 
 abbrev pub plain : Style
-plain = record { json = false; annotate = false; put_in = false }
+plain = record { json = false; annotate = false; put_in = false; running = false }
 
 -- an audit that found something ends by a fault
 abbrev pub ended_by : Result Beside TraceFault → Option Fault

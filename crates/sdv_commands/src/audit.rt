@@ -30,6 +30,7 @@ pub fn audit_file<'a, S: Store, O: Write>(
         json: words.json,
         annotate: words.annotate,
         put_in: false,
+        running: words.running,
     };
     let kind = kind_of(words.kind).ok_or(Fault::Usage)?;
     let source = files.open(words.trace).ok_or(Fault::File(words.trace))?;

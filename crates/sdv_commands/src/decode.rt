@@ -213,6 +213,7 @@ fn audit_lined<'a, O: Write>(
         json: false,
         annotate: false,
         put_in: false,
+        running: false,
     };
     let audited = audit_beside(alloc, graph, traced.trace, traced.given, style, out)?;
     end_of(audited.tally.has_findings())

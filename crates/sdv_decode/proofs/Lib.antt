@@ -1,3 +1,4 @@
+pub mod CourseLaws
 pub mod LineLaws
 pub mod ReadLaws
 pub mod StepLaws

@@ -2,7 +2,7 @@
 use Rattle.std.proofs.Common.{◌≡◌, ◌∙◌, ℕ, Bool, false, true, List, Option, Some, Result, Ok, Err, inl, inr, refl, sym, ap, subst, option_map}
 use Rattle.std.specs.Prelude.{IfOk, OnOk, is_err}
 use Rattle.sdv_telling.specs.Statements.{Text}
-use Rattle.sdv_audit.specs.Course.{Course, IsAt, course_after}
+use Rattle.sdv_audit.specs.Course.{Course, IsAt}
 use Rattle.sdv_audit.specs.Reading.{read_line}
 use Rattle.sdv_audit.specs.declared.fault.AuditFault.{AuditFault}
 use Rattle.sdv_audit.specs.declared.line.TraceLine.{TraceLine}
@@ -15,7 +15,7 @@ use Rattle.sdv_run.specs.declared.next_event.Next.TheVariants as nexts
 use Rattle.sdv_run.specs.declared.next_event.NextEvent.{NextEvent}
 use Rattle.sdv_run.specs.declared.returned.Returned.{Returned}
 use Rattle.sdv_trace.specs.declared.end.End.{End}
-use Rattle.sdv_decode.specs.Decoded.{ComesNext, Misfits, Place, Strays, course_before, line_behind, off_behind, place_after, spot_of, told_with}
+use Rattle.sdv_decode.specs.Decoded.{ComesNext, Misfits, Place, Strays, course_before, course_behind, line_behind, off_behind, place_after, spot_of, told_with}
 use Rattle.sdv_decode.specs.LineWords.{AddsLine, Spot, announces, end_told, printed, spot_seen, told}
 use Rattle.sdv_decode.specs.Matches.{given_after, is_end, is_of, register_told, returned_of}
 use Rattle.sdv_decode.specs.Room.{AreTooMany, LacksRoom}
@@ -31,7 +31,7 @@ use Rattle.sdv_decode.specs.declared.reading.Step.TheVariants.{Passed, Stopped}
 -- where the reading stands after the line of an event
 pub went_on : (r r' : Reading) (event : NextEvent) (line : TraceLine) (next : Option TraceLine)
     → Went r.runner (returned_of line (register_told (given_of r) line)) r'.runner → r'.audit.kind ≡ r.audit.kind
-    → ((c : Course) → IsAt r.audit c → IsAt r'.audit (course_after r.audit.kind (told_with line next) (course_before r.audit.kind event c)))
+    → ((c : Course) → IsAt r.audit c → IsAt r'.audit (course_behind r.audit.kind (told_with line next) (course_before r.audit.kind event c)))
     → r'.app ≡ announces line → given_of r' ≡ given_after (given_of r) line → r'.number ≡ counted true r.number
     → GoesOn r event line next r' true
 went_on r r' event line next went kind course app given number at asked =
@@ -43,7 +43,7 @@ went_on r r' event line next went kind course app given number at asked =
         machine = refl;
         beside = record {
           kind = kind ∙ same;
-          course = subst (λ (k : Kind). IsAt r'.audit (course_after k (told_with line next) (course_before k event at.course))) same
+          course = subst (λ (k : Kind). IsAt r'.audit (course_behind k (told_with line next) (course_before k event at.course))) same
               (course at.course beside.course);
           app = app;
           given = given ∙ ap (λ (bytes : Option (List ℕ)). given_after bytes line) beside.given;

@@ -42,9 +42,13 @@ pub record Place : Type 0 where
 abbrev pub at_first : Graph → (given : Option (List ℕ)) → Place
 at_first g given = record { machine = at_start g; app = false; course = begun; given = given; number = 1 }
 
+-- the course behind a line
+unfoldable pub course_behind : Kind → Told → Course → Course
+course_behind k told c = course_after k told c
+
 -- the host's data lines at a phase; a run prints no line where it changes them
 abbrev pub uses : Kind → Width → Course → Course
-uses k width c = course_after k (lines_told width) c
+uses k width c = course_behind k (lines_told width) c
 
 abbrev pub course_before : Kind → NextEvent → Course → Course
 course_before k (events.ReceiveBlocks lines count) c = uses k lines c
@@ -65,7 +69,7 @@ abbrev pub told_with : TraceLine → Option TraceLine → Told
 told_with line next = record { line = line; next = next }
 
 abbrev pub course_by : Kind → NextEvent → TraceLine → Option TraceLine → Course → Course
-course_by k event line next c = course_after k (told_with line next) (course_before k event c)
+course_by k event line next c = course_behind k (told_with line next) (course_before k event c)
 
 abbrev pub place_after : Place → (after : Machine) → NextEvent → TraceLine → Option TraceLine → Place
 place_after at after event line next = record {

@@ -5,17 +5,17 @@ use Rattle.sdv_registers.specs.declared.kind.Kind.{Kind}
 use Rattle.sdv_telling.specs.Statements.{Text}
 use Rattle.sdv_audit.specs.declared.line.TraceLine.{TraceLine}
 use Rattle.sdv_audit.specs.declared.turn.Told.{Told}
-use Rattle.sdv_audit.specs.Course.{Course, course_after}
+use Rattle.sdv_audit.specs.Course.{Course}
 use Rattle.sdv_audit.specs.Room.{AreMany}
 use Rattle.sdv_run.specs.declared.next_event.NextEvent.{NextEvent}
-use Rattle.sdv_decode.specs.Decoded.{ComesNext, Passes, Place, course_before, line_behind, told_with}
+use Rattle.sdv_decode.specs.Decoded.{ComesNext, Passes, Place, course_before, course_behind, line_behind, told_with}
 use Rattle.sdv_decode.specs.declared.form.Form.{Form}
 
 -- where the host uses the data lines of the event, or behind the line
 abbrev pub AreTooMany : Kind → NextEvent → Told → Course → Type 0
 AreTooMany k event told c =
     AreMany (May (course_before k event c).shapes)
-    ⊎ AreMany (May (course_after k told (course_before k event c)).shapes)
+    ⊎ AreMany (May (course_behind k told (course_before k event c)).shapes)
 
 -- the line comes next, and there are too many shapes at it
 pub record LacksRoom (at : Place) (text : Text) (next : Option TraceLine) : Type 0 where

@@ -40,7 +40,9 @@ pub fn returned_of(line: &TraceLine, register: [u8; 512]) -> Returned
         TraceLine::RegisterIn { end, .. } => Returned::RegisterIn(*end, register),
         TraceLine::BlocksOut { end, .. } => Returned::BlocksOut(*end),
         TraceLine::Wait { end } => Returned::Waited(*end),
-        TraceLine::Lines { .. } | TraceLine::End => Returned::Waited(WaitEnd::Ok),
+        TraceLine::Lines { .. } | TraceLine::Running { .. } | TraceLine::End => Returned::Waited(
+            WaitEnd::Ok,
+        ),
     }
 }
 
@@ -86,7 +88,10 @@ pub fn register_told(given: Option<&[u8]>, line: &TraceLine) -> [u8; 512]
         TraceLine::Exchange { .. } | TraceLine::BlocksIn { .. } | TraceLine::BlocksOut { .. } => {
             greatest_register()
         }
-        TraceLine::Wait { .. } | TraceLine::Lines { .. } | TraceLine::End => greatest_register(),
+        TraceLine::Wait { .. }
+        | TraceLine::Lines { .. }
+        | TraceLine::Running { .. }
+        | TraceLine::End => greatest_register(),
     }
 }
 

@@ -201,7 +201,10 @@ pub fn meaning(
             put_phase(&mut text, "blocks to the card", *end, shapes)?;
         }
         TraceLine::Wait { end } => put_wait(&mut text, *end, shapes)?,
-        TraceLine::Lines { .. } | TraceLine::End => put(&mut text, "the end of the run")?,
+        TraceLine::Lines { .. } | TraceLine::Running { .. } | TraceLine::End => put(
+            &mut text,
+            "the end of the run",
+        )?,
     }
     Ok(text)
 }

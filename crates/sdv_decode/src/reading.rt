@@ -1,13 +1,13 @@
 //! A trace that is read beside a script, line by line.
 
 ghost use Rattle.std.specs.Prelude.{◌≡◌, ◌<◌, ℕ, false, true, IfErr, IfOk, List, OnOk, Ok, Some, length, map, option_map};
-ghost use Rattle.sdv_audit.specs.Course.{Course, IsAt, course_after};
+ghost use Rattle.sdv_audit.specs.Course.{Course, IsAt};
 ghost use Rattle.sdv_audit.specs.Reading.{read_line};
 ghost use Rattle.sdv_audit.specs.Room.{AreMany};
 ghost use Rattle.sdv_card.specs.Lists.{May};
 ghost use Rattle.sdv_run.specs.Machine.{Asked};
 ghost use Rattle.sdv_run.specs.declared.next_event.Next.TheVariants.{Event};
-ghost use Rattle.sdv_decode.specs.Decoded.{Place, at_first, course_before, line_behind, off_behind, uses};
+ghost use Rattle.sdv_decode.specs.Decoded.{Place, at_first, course_before, course_behind, line_behind, off_behind, uses};
 ghost use Rattle.sdv_audit.specs.Notes.{counted};
 ghost use Rattle.sdv_decode.specs.LineWords.{AddsLine, end_told, told};
 ghost use Rattle.sdv_decode.specs.Room.{AreTooMany, LacksRoom};
@@ -105,7 +105,7 @@ fn follow_before(audit: &mut Audit, event: &NextEvent) -> Result<(), AuditFault>
 fn follow(audit: &mut Audit, event: &NextEvent, told: &Told) -> Result<(), AuditFault>
     ensures kind { audit.new.kind ≡ audit.old.kind }
     ensures course { OnOk result ((c : Course) → IsAt audit.old c →
-        IsAt audit.new (course_after audit.old.kind told.now (course_before audit.old.kind event.now c))) }
+        IsAt audit.new (course_behind audit.old.kind told.now (course_before audit.old.kind event.now c))) }
     ensures room { IfErr result (λ fault. fault ≡ AuditFault.Room → (c : Course) → IsAt audit.old c →
         AreTooMany audit.old.kind event.now told.now c) }
 {

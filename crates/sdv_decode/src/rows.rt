@@ -28,7 +28,7 @@ fn mark_of(line: &TraceLine) -> Mark {
         TraceLine::BlocksOut { .. } => Mark::CutOut,
         TraceLine::Wait { end: WaitEnd::Ok } => Mark::Free,
         TraceLine::Wait { .. } => Mark::Busy,
-        TraceLine::Lines { .. } | TraceLine::End => Mark::Fault,
+        TraceLine::Lines { .. } | TraceLine::Running { .. } | TraceLine::End => Mark::Fault,
     }
 }
 

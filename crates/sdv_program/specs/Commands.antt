@@ -57,7 +57,7 @@ commands =
     ∷ flag (codes "no-faults") ∷ [])
     ∷ command (codes "emit") (script ∷ certificate ∷ required (codes "NAME") ∷ with_value (codes "binary") ∷ [])
     ∷ command (codes "audit") (required (codes "KIND") ∷ required (codes "TRACE") ∷ flag (codes "json")
-    ∷ flag (codes "annotate") ∷ with_value (codes "script") ∷ with_value (codes "registers") ∷ flag (codes "svg") ∷ [])
+    ∷ flag (codes "annotate") ∷ flag (codes "running") ∷ with_value (codes "script") ∷ with_value (codes "registers") ∷ flag (codes "svg") ∷ [])
     ∷ command (codes "drive") (script ∷ certificate ∷ with_value (codes "in") ∷ with_value (codes "out")
     ∷ with_value (codes "trace") ∷ flag (codes "plain") ∷ [])
     ∷ command (codes "card") (card ∷ optional (codes "IMAGE") ∷ schedule ∷ flag (codes "describe") ∷ [])

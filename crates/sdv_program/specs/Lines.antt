@@ -28,6 +28,7 @@ pub record AuditTexts : Type 0 where
   pub registers : Option Text
   pub json : Bool
   pub annotate : Bool
+  pub running : Bool
   pub svg : Bool
 
 -- the words of a card that answers lines, or that is described
@@ -135,6 +136,7 @@ by_audit_words rows =
       registers = first_of (codes "registers") rows;
       json = is_set (codes "json") rows;
       annotate = is_set (codes "annotate") rows;
+      running = is_set (codes "running") rows;
       svg = is_set (codes "svg") rows;
     }))))
 
@@ -218,6 +220,7 @@ audit_line_of words = record {
   registers = option_map (λ file. file.now) words.registers;
   json = words.json;
   annotate = words.annotate;
+  running = words.running;
   svg = words.svg;
 }
 

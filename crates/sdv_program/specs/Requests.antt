@@ -49,6 +49,7 @@ pub record AuditNames : Type 0 where
   pub trace : Text
   pub json : Bool
   pub annotate : Bool
+  pub running : Bool
 
 -- the files of a run over lines, by their names
 pub record DriveNames : Type 0 where
@@ -161,7 +162,13 @@ emit_names_of words = record {
 
 abbrev pub audit_names_of : AuditWords → AuditNames
 audit_names_of words =
-    record { kind = words.kind.now; trace = words.trace.now; json = words.json; annotate = words.annotate }
+    record {
+      kind = words.kind.now;
+      trace = words.trace.now;
+      json = words.json;
+      annotate = words.annotate;
+      running = words.running;
+    }
 
 abbrev pub drive_names_of : DriveFiles → DriveNames
 drive_names_of files = record {

@@ -18,15 +18,22 @@ explain_request words =
     else unless words.no_faults
     (explain (record { script = words.script; certificate = words.certificate; why = words.why }))
 
--- a trace for itself, of which neither registers nor a picture are known; or one beside its script, whose lines are not annotated,
--- as JSON, as a picture or in words
+-- a trace for itself, of which neither registers nor a picture are known; or one beside its script, whose lines are not annotated and
+-- which begins at power-on, as JSON, as a picture or in words
 abbrev pub audit_by_script : AuditTexts → Option Text → Option Request
 audit_by_script words None =
     if words.svg then None
     else unless (is_some words.registers)
-    (audit (record { kind = words.kind; trace = words.trace; json = words.json; annotate = words.annotate }))
+    (audit (record {
+      kind = words.kind;
+      trace = words.trace;
+      json = words.json;
+      annotate = words.annotate;
+      running = words.running;
+    }))
 audit_by_script words (Some script) =
     if words.annotate then None
+    else if words.running then None
     else unless (words.json && words.svg) (decode (record {
       kind = words.kind;
       script = script;

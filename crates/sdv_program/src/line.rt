@@ -169,6 +169,8 @@ pub struct AuditLine<'a> {
     pub registers: Option<&'a str>,
     pub json: bool,
     pub annotate: bool,
+    /// The trace begins in a running system.
+    pub running: bool,
     pub svg: bool,
 }
 
@@ -399,6 +401,7 @@ fn audit_in<'a>(matches: &ArgMatches<'a>) -> Option<Line<'a>>
         registers: word_in(matches, "registers"),
         json: is_set(matches, "json"),
         annotate: is_set(matches, "annotate"),
+        running: is_set(matches, "running"),
         svg: is_set(matches, "svg"),
     }))
 }

@@ -160,7 +160,7 @@ fn clash(command: &str, words: &[&str]) -> &'static str {
         _ if has(b"json") && has(b"svg") => "--json and --svg exclude each other",
         "explain" if has(b"dot") => "--dot goes with neither CERT nor --why",
         "explain" => "--no-faults needs --dot",
-        "audit" if has(b"script") => "--annotate and --script exclude each other",
+        "audit" if has(b"script") => "--script goes with neither --annotate nor --running",
         "audit" => "--registers and --svg need --script",
         "card" if has(b"describe") => "--describe takes CARD and SCHEDULE alone",
         "card" => "IMAGE is missing",

@@ -92,6 +92,8 @@ pub struct AuditWords<'a> {
     pub json: bool,
     /// Each line of the trace is printed too.
     pub annotate: bool,
+    /// The trace begins in a running system.
+    pub running: bool,
 }
 
 /// The words of a trace that is read beside a script.
@@ -218,7 +220,7 @@ fn explain_request<'a>(words: ExplainLine<'a>) -> Option<Request<'a>>
     }
 }
 
-/// Registers and a picture are of a trace beside its script, whose lines are not annotated.
+/// Registers and a picture are of a trace beside its script, whose lines are not annotated, and which begins at power-on.
 fn audit_request<'a>(words: AuditLine<'a>) -> Option<Request<'a>>
     ensures { option_map seen result ≡ audit_request (audit_line_of words.entry) }
 {
@@ -229,6 +231,7 @@ fn audit_request<'a>(words: AuditLine<'a>) -> Option<Request<'a>>
         registers,
         json,
         annotate,
+        running,
         svg,
     } = words;
     match (script, registers) {
@@ -237,15 +240,18 @@ fn audit_request<'a>(words: AuditLine<'a>) -> Option<Request<'a>>
             trace,
             json,
             annotate,
+            running,
         })),
-        (Some(script), _) if !annotate && !(json && svg) => Some(Request::Decode(DecodeWords {
-            kind,
-            script,
-            trace,
-            registers,
-            json,
-            svg,
-        })),
+        (Some(script), _) if !annotate && !running && !(json && svg) => Some(Request::Decode(
+            DecodeWords {
+                kind,
+                script,
+                trace,
+                registers,
+                json,
+                svg,
+            },
+        )),
         _ => None,
     }
 }

@@ -161,6 +161,10 @@ pub static COMMANDS: [CommandEntry; 12] = [
             Word::Required("TRACE", "a file with a trace, as sdv run prints it"),
             JSON,
             Word::Flag("annotate", "prints each line of the trace too"),
+            Word::Flag(
+                "running",
+                "the trace begins in a running system: the card is in any state",
+            ),
             Word::WithValue(
                 "script",
                 "SCRIPT",

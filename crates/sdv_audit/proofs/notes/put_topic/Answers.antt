@@ -6,13 +6,13 @@ use Rattle.sdv_audit.proofs.notes.put_topic.Goals as goal
 
 pub returns-then-not-is_noted : goal.returns-then-not-is_noted
 returns-then-not-is_noted c =
-    let note : Note = record { number = c.args.at.number; line = c.args.at.line.now; topic = c.args.topic } in
+    let note : Note = record { number = c.args.at.number; line = c.args.at.line.now; topic = c.args.topic; premises = c.args.at.premises } in
     let due : is_noted c.args.at.style c.args.found.now c.args.topic ≡ false = sym c.is_noted.ensures ∙ c.if-not-is_noted.true in
     ([], sym (append-nil c.args.text.now.items), subst (λ (b : Bool). HasNotes c.args.at.style (note_if b note) []) (sym due) refl)
 
 pub returns : goal.returns
 returns c =
-    let note : Note = record { number = c.args.at.number; line = c.args.at.line.now; topic = c.args.topic } in
+    let note : Note = record { number = c.args.at.number; line = c.args.at.line.now; topic = c.args.topic; premises = c.args.at.premises } in
     let due : is_noted c.args.at.style c.args.found.now c.args.topic ≡ true = sym c.is_noted.ensures ∙ c.if-not-is_noted.false in
     let text = note_text c.args.at.style note c.deref.result.now in
     on_ok_weaker c.put_note.result

@@ -1,7 +1,6 @@
-use Rattle.std.proofs.Common.{◌≡◌, ◌∙◌, [], Err, Ok, ap, false, inl, rules, sym, subst}
+use Rattle.std.proofs.Common.{◌≡◌, ◌∙◌, [], Err, Ok, ap, inl, rules, sym, subst}
 use Rattle.sdv_audit.specs.Texts.{read_said, with_said}
 use Rattle.sdv_audit.specs.declared.input.TextFault.TheVariants as text_faults
-use Rattle.sdv_audit.specs.declared.input.TextEnd.TheVariants as ends
 use Rattle.sdv_audit.specs.Faults.{fault_of_note}
 use Rattle.sdv_audit.specs.Input.{ReadsText, is_over}
 use Rattle.sdv_audit.proofs.TraceLaws.{audits_note, begins, no_lines, one_more_line, no_more, last_more, reading_stops, line_stops, all_ends}

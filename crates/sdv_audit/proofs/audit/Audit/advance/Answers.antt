@@ -1,10 +1,10 @@
-use Rattle.std.proofs.Common.{Err, rules, false, ◌≡◌, ap, refl, subst, sym, ◌∙◌, ◌∷◌, true}
+use Rattle.std.proofs.Common.{Err, rules, false, ◌≡◌, ap, refl, subst, sym, ◌∙◌, ◌∷◌, true, ◌||◌}
 use Rattle.sdv_card.specs.Lists.{May, all}
 use Rattle.sdv_audit.specs.declared.audit.Audit.{Audit}
 use Rattle.sdv_audit.specs.declared.audit.Findings.{Findings}
 use Rattle.sdv_audit.specs.Audited.{is_empty, is_unanswered}
 use Rattle.sdv_audit.specs.Lived.{LivedFor, turn_within}
-use Rattle.sdv_audit.proofs.Audits.{no_bounds, some_reckless, lived_more, one_more, none_left, left_empty}
+use Rattle.sdv_audit.proofs.Audits.{no_bounds, some_forbidden, some_reckless, lived_more, one_more, none_left, left_empty}
 use Rattle.sdv_audit.proofs.Courses.{Advanced, found_so, is_at_next, bounded_then, bounded_else}
 use Rattle.sdv_audit.proofs.RoomLaws.{room_on}
 use Rattle.sdv_audit.proofs.audit.Audit.advance.Goals as goal
@@ -31,6 +31,14 @@ returns-clause-stands c past s =
 pub returns-clause-real : goal.returns-clause-real
 returns-clause-real c = some_reckless c.args.self.now c.turn-turn.result c.reckless-reckless.result c.reckless-reckless.ensures.found
 
+pub returns-clause-forbidden : goal.returns-clause-forbidden
+returns-clause-forbidden c =
+    some_forbidden c.args.self.now c.turn-turn.result c.args.told.now c.in_ok-shapes.shapes.items c.reckless-reckless.result
+    c.reckless-reckless.ensures.found c.reckless-reckless.ensures.forbidden (λ t m. (c.in_ok-shapes.ensures.members t).0 m)
+    (λ past s.
+    (one_more c.args.self.now.kind c.args.self.now.known c.after_line-self.result c.args.self.now.shapes.items c.in_ok-shapes.shapes.items
+    c.turn-turn.result c.args.told.now past s.known s.covers c.turn-turn.ensures c.after_line-self.ensures c.in_ok-shapes.ensures.members).covers)
+
 pub returns-clause-unanswered : goal.returns-clause-unanswered
 returns-clause-unanswered c e past s =
     let more = one_more c.args.self.now.kind c.args.self.now.known c.after_line-self.result c.args.self.now.shapes.items c.in_ok-shapes.shapes.items
@@ -51,6 +59,7 @@ after c = record {
   known = c.after_line-self.result;
   shapes = c.in_ok-shapes.shapes;
   bounded = c.if-self.self;
+  running = c.either-self.result;
 }
 
 found : goal.After-drop-self → Findings
@@ -60,6 +69,7 @@ found c = record {
   unanswered = c.is_unanswered-unanswered.result;
   beyond = c.beyond-beyond.result;
   restarted = false;
+  resumed = false;
 }
 
 advanced : (c : goal.After-drop-self) → Advanced c.args.self.now (after c) c.args.told.now (found c)
@@ -73,6 +83,8 @@ advanced c = record {
       ∙ ap (λ v. is_unanswered c.reckless-reckless.result c.args.self.now.shapes.items v) c.as_slice-2.ensures.value);
   beyond = c.beyond-beyond.ensures;
   restarted = refl;
+  resumed = refl;
+  running = c.either-self.ensures ∙ ap (λ v. c.args.self.now.running || v) c.is_resumed.ensures;
   bounded = elim c.if-self.branch [
     | then-self w ↦
         w.self-is ∙ bounded_then w.all_within-self.result c.args.self.now.bounded
