@@ -83,6 +83,10 @@ is_last ask = (ask.index == 33) || (ask.index == 36)
 abbrev pub is_erase : Ask → Bool
 is_erase ask = ask.index == 38
 
+-- a write or an erase begins with it
+abbrev pub begins : Ask → Bool
+begins ask = is_write ask || is_first ask
+
 abbrev pub part_of : Ask → Option ErasePart
 part_of ask =
     if is_first ask then Some First else (if is_last ask then Some Last else (if is_erase ask then Some Cmd38 else None))

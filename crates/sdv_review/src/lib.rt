@@ -18,6 +18,8 @@
 //!   `docs/PROVED.md`).
 //! - `find_shifts`: where nothing is found at a write phase, any two runs that come there gave as many blocks of the input
 //!   before (`InputsAreTold` of `specs/Input.antt`).
+//! - Each write and each erase of a run is followed on its own, whatever became of those before it: at its first command it is
+//!   followed also as if none had begun (`CommandCarried` of `specs/Carried.antt`).
 //! - There may be less than is found: statuses are kept apart by the shapes of a point (`layout`), which have the flags of
 //!   the script, and joined where paths come to one shape. A set with more than eight holds only that nothing is known,
 //!   and so it is above 66,666 shapes in all. The words of a finding are tested.

@@ -3,7 +3,7 @@
 ghost use Rattle.std.specs.Prelude.{◌≡◌, slice_get};
 ghost use Rattle.sdv_graph.specs.Graph.{seen_action};
 ghost use Rattle.sdv_review.specs.declared.status.Status.TheVariants.{EraseLeft, Left};
-ghost use Rattle.sdv_review.specs.Statuses.{action_reads, after_event, after_let, after_phase, answered, begun, confirms, ends_well, erase_begun, erase_on, erase_reads, erase_sent, erased, given, is_erase, is_first, is_last, is_moved, is_or_lacks, is_write, keeps, last_reads, moved, part_of, place_reads, sent, suits, with_part};
+ghost use Rattle.sdv_review.specs.Statuses.{action_reads, after_event, after_let, after_phase, answered, begins, begun, confirms, ends_well, erase_begun, erase_on, erase_reads, erase_sent, erased, given, is_erase, is_first, is_last, is_moved, is_or_lacks, is_write, keeps, last_reads, moved, part_of, place_reads, sent, suits, with_part};
 
 use crate::asked::moves;
 use crate::finding::Name;
@@ -152,6 +152,13 @@ fn is_erase(ask: &Ask) -> bool
     ensures { result ≡ is_erase ask.now }
 {
     ask.index == 38
+}
+
+/// A write or an erase begins with the command.
+pub fn begins(ask: &Ask) -> bool
+    ensures { result ≡ begins ask.now }
+{
+    is_write(ask) || is_first(ask)
 }
 
 /// The command of an erase that this is, if it is one.
