@@ -54,7 +54,7 @@ _sdv() {
     verify:*)
         case $before:$word in
         --save:*) mapfile -t COMPREPLY < <(compgen -d -- "$word") ;;
-        --allow:*) _sdv_words "$word" "partition write erase boot-enable unreached one-way unread input-shifts" ;;
+        --allow:*) _sdv_words "$word" "partition write erase boot-enable unreached one-way unread input-shifts loop-once" ;;
         *:-*) _sdv_words "$word" "--json --no-run --save --allow" ;;
         *) _sdv_files "$word" '*.sdv' ;;
         esac ;;

@@ -41,28 +41,46 @@ A write that a clean status in transfer state confirms, one that nothing confirm
   sd open
   open.sdv:16:3: warning: done may come before the write of line 15 is confirmed [write]
       hint     behind the wait, `send 13 { clean & state=tran { .. } else { .. } }` shows that it is stored
+      card     an SD card with block addresses, of 1024 blocks
+      mishap   line 15: the phase of 1 block to the card stores nothing, and a later status shows the error
+      done     block 8 is not the one that the write of line 15 gave
   open.sdv: accepted, at most 2008 commands, gives at most 1 block (1 warning, 1 note)
   sd doubt
   doubt.sdv:16:26: warning: done may come where the write of line 15 was lost or cut, or its error passed over [write]
       hint     end the run in a fault, or do it again, where it is lost, cut or answered with an error
+      card     an SD card with block addresses, of 1024 blocks
+      mishap   line 15: the phase of 1 block to the card stores nothing, and a later status shows the error
+      done     block 8 is not the one that the write of line 15 gave
   doubt.sdv: accepted, at most 2009 commands, gives at most 1 block (1 warning, 1 note)
   sd ready
   ready.sdv:16:26: warning: done may come where the write of line 15 was lost or cut, or its error passed over [write]
       hint     end the run in a fault, or do it again, where it is lost, cut or answered with an error
+      card     an SD card with block addresses, of 1024 blocks
+      mishap   line 15: the phase of 1 block to the card stores nothing, and a later status shows the error
+      done     block 8 is not the one that the write of line 15 gave
   ready.sdv: accepted, at most 3009 commands, gives at most 1 block (1 warning, 1 note)
   emmc confirmed
   confirmed.sdv: accepted, at most 1009 commands, gives at most 1 block (1 note)
   emmc open
   open.sdv:15:3: warning: done may come before the write of line 14 is confirmed [write]
       hint     behind the wait, `send 13 { clean & state=tran { .. } else { .. } }` shows that it is stored
+      card     an e.MMC device with block addresses, of 1024 blocks
+      mishap   line 14: the phase of 1 block to the card stores nothing, and a later status shows the error
+      done     block 8 is not the one that the write of line 14 gave
   open.sdv: accepted, at most 1008 commands, gives at most 1 block (1 warning, 1 note)
   emmc doubt
   doubt.sdv:15:26: warning: done may come where the write of line 14 was lost or cut, or its error passed over [write]
       hint     end the run in a fault, or do it again, where it is lost, cut or answered with an error
+      card     an e.MMC device with block addresses, of 1024 blocks
+      mishap   line 14: the phase of 1 block to the card stores nothing, and a later status shows the error
+      done     block 8 is not the one that the write of line 14 gave
   doubt.sdv: accepted, at most 1009 commands, gives at most 1 block (1 warning, 1 note)
   emmc ready
   ready.sdv:15:26: warning: done may come where the write of line 14 was lost or cut, or its error passed over [write]
       hint     end the run in a fault, or do it again, where it is lost, cut or answered with an error
+      card     an e.MMC device with block addresses, of 1024 blocks
+      mishap   line 14: the phase of 1 block to the card stores nothing, and a later status shows the error
+      done     block 8 is not the one that the write of line 14 gave
   ready.sdv: accepted, at most 2009 commands, gives at most 1 block (1 warning, 1 note)
 
 A write that was cut, and given up for a done; and one that was left for another place.
@@ -85,14 +103,20 @@ A write that was cut, and given up for a done; and one that was left for another
   > done
   cut.sdv:16:81: warning: done may come where the write of line 15 was lost or cut, or its error passed over [write]
       hint     end the run in a fault, or do it again, where it is lost, cut or answered with an error
+      card     an SD card with block addresses, of 1024 blocks
+      mishap   line 15: the phase of 1 block to the card is cut
+      done     block 8 is not the one that the write of line 15 gave
   cut.sdv: accepted, at most 4008 commands, gives at most 1 block (1 warning)
-  {"column":34,"file":"other.sdv","kind":"write","line":19,"point":39,"severity":"warning","text":"done may come where line 18 left the write of line 15, which may have failed"}
+  {"column":34,"file":"other.sdv","kind":"write","line":19,"point":39,"run":{"block":8,"blocks":1024,"card":"card sd\nversion 2\nunit block\ncsize 0\nrca 4660\n","done":"block 8 is not the one that the write of line 15 gave","given":2,"partition":0,"schedule":"00000000006","trace":"CMD0 00000000 -\nCMD8 000001aa R7 000001aa\nCMD55 00000000 R1 00000120\nCMD41 40ff8000 R3 c0ff8000\nCMD2 00000000 R2 005858534456202010000000010181\nCMD3 00000000 R6 12340500\nCMD9 12340000 R2 400000000009000000000000000000\nCMD7 12340000 R1 00000700\nCMD16 00000200 R1 00000900\nCMD24 00000008 R1 00000900\nOUT 1 cut\nCMD13 12340000 R1 00000d00\nCMD12 00000000 R1 00000d00\nCMD13 12340000 R1 00000900\nCMD24 00000009 R1 00000900\nOUT 1 ok\nWAIT ok\nCMD13 12340000 R1 00000900\ndone\n"},"severity":"warning","text":"done may come where line 18 left the write of line 15, which may have failed"}
   {"column":1,"file":"other.sdv","kind":"unreached","line":20,"point":43,"severity":"note","text":"no run comes to fault write"}
   {"blocks":2,"commands":4009,"errors":0,"file":"other.sdv","notes":1,"verdict":"accepted","warnings":1}
   cut.sdv:15:81: warning: done may come where the write of line 14 was lost or cut, or its error passed over [write]
       hint     end the run in a fault, or do it again, where it is lost, cut or answered with an error
+      card     an e.MMC device with block addresses, of 1024 blocks
+      mishap   line 14: the phase of 1 block to the card is cut
+      done     block 8 is not the one that the write of line 14 gave
   cut.sdv: accepted, at most 3008 commands, gives at most 1 block (1 warning)
-  {"column":34,"file":"other.sdv","kind":"write","line":18,"point":42,"severity":"warning","text":"done may come where line 17 left the write of line 14, which may have failed"}
+  {"column":34,"file":"other.sdv","kind":"write","line":18,"point":42,"run":{"block":8,"blocks":1536,"card":"card emmc\nunit block\nsectors 1024\nboot 1\n","done":"block 8 is not the one that the write of line 14 gave","given":2,"partition":0,"schedule":"00000000006","trace":"CMD0 00000000 -\nCMD1 40ff8080 R3 c0ff8080\nCMD2 00000000 R2 000158534456455249100000000117\nCMD3 00010000 R1 00000500\nCMD9 00010000 R2 00000000000903ffc0038000000000\nCMD7 00010000 R1 00000700\nCMD16 00000200 R1 00000900\nCMD8 00000000 R1 00000900\nREG 512 ok\nCMD24 00000008 R1 00000900\nOUT 1 cut\nCMD13 00010000 R1 00000d00\nCMD12 00000000 R1 00000d00\nCMD13 00010000 R1 00000900\nCMD24 00000009 R1 00000900\nOUT 1 ok\nWAIT ok\nCMD13 00010000 R1 00000900\ndone\n"},"severity":"warning","text":"done may come where line 17 left the write of line 14, which may have failed"}
   {"column":1,"file":"other.sdv","kind":"unreached","line":19,"point":46,"severity":"note","text":"no run comes to fault write"}
   {"blocks":2,"commands":3009,"errors":0,"file":"other.sdv","notes":1,"verdict":"accepted","warnings":1}
   [1]
@@ -114,18 +138,30 @@ not without a test.
   sure.sdv: accepted, at most 2009 commands, gives at most 1 block
   unsure.sdv:18:31: warning: done may come where the write of line 15 was lost or cut, or its error passed over [write]
       hint     end the run in a fault, or do it again, where it is lost, cut or answered with an error
+      card     an SD card with block addresses, of 1024 blocks
+      mishap   line 15: the phase of 1 block to the card stores nothing, and a later status shows the error
+      done     block 8 is not the one that the write of line 15 gave
   unsure.sdv: accepted, at most 2009 commands, gives at most 1 block (1 warning)
   untested.sdv:3:10: note: sure is never read [unread]
   untested.sdv:18:1: warning: done may come where the write of line 15 was lost or cut, or its error passed over [write]
       hint     end the run in a fault, or do it again, where it is lost, cut or answered with an error
+      card     an SD card with block addresses, of 1024 blocks
+      mishap   line 15: the phase of 1 block to the card stores nothing, and a later status shows the error
+      done     block 8 is not the one that the write of line 15 gave
   untested.sdv: accepted, at most 2009 commands, gives at most 1 block (1 warning, 1 note)
   sure.sdv: accepted, at most 1009 commands, gives at most 1 block
   unsure.sdv:17:31: warning: done may come where the write of line 14 was lost or cut, or its error passed over [write]
       hint     end the run in a fault, or do it again, where it is lost, cut or answered with an error
+      card     an e.MMC device with block addresses, of 1024 blocks
+      mishap   line 14: the phase of 1 block to the card stores nothing, and a later status shows the error
+      done     block 8 is not the one that the write of line 14 gave
   unsure.sdv: accepted, at most 1009 commands, gives at most 1 block (1 warning)
   untested.sdv:3:10: note: sure is never read [unread]
   untested.sdv:17:1: warning: done may come where the write of line 14 was lost or cut, or its error passed over [write]
       hint     end the run in a fault, or do it again, where it is lost, cut or answered with an error
+      card     an e.MMC device with block addresses, of 1024 blocks
+      mishap   line 14: the phase of 1 block to the card stores nothing, and a later status shows the error
+      done     block 8 is not the one that the write of line 14 gave
   untested.sdv: accepted, at most 1009 commands, gives at most 1 block (1 warning, 1 note)
   [1]
 
@@ -144,22 +180,43 @@ number of its address, a change of partition.
   > done
   -:17:1: warning: done may come where the write of line 15 was lost or cut, or its error passed over [write]
       hint     end the run in a fault, or do it again, where it is lost, cut or answered with an error
+      card     an SD card with block addresses, of 1024 blocks
+      mishap   line 15: CMD24 is lost
+      done     block 8 is as before the run: the write of line 15 gave it nothing
   -: accepted, at most 4009 commands, gives at most 1 block (1 warning)
   -:17:138: warning: done may come where line 17 left the write of line 15, which may have failed [write]
+      done     block 8 is as before the run: the write of line 15 gave it nothing
   -:18:1: warning: done may come where line 17 left the write of line 15, which may have failed [write]
+      done     block 8 is as before the run: the write of line 15 gave it nothing
   -: accepted, at most 8008 commands, gives at most 3 blocks
   -:16:1: warning: done may come where the write of line 14 was lost or cut, or its error passed over [write]
       hint     end the run in a fault, or do it again, where it is lost, cut or answered with an error
+      card     an e.MMC device with block addresses, of 1024 blocks
+      mishap   line 14: CMD24 is lost
+      done     block 8 is as before the run: the write of line 14 gave it nothing
   -: accepted, at most 3009 commands, gives at most 1 block (1 warning)
   -:16:138: warning: done may come where line 16 left the write of line 14, which may have failed [write]
+      done     block 8 is as before the run: the write of line 14 gave it nothing
   -:17:1: warning: done may come where line 16 left the write of line 14, which may have failed [write]
+      done     block 8 is as before the run: the write of line 14 gave it nothing
   -: accepted, at most 7008 commands, gives at most 3 blocks
   $ { write b '' ''; echo $back; echo "send 32 at by hc 9 { clean { send 33 at by hc 9 { clean { send 38 { clean { $wait"
   >   echo 'send 13 { clean & state=tran { done } else { fault e } } } else { fault e } } } else { fault e } } } else { fault e } }'; } | up sd | sdv verify - | grep done
   -:18:32: warning: done may come where line 17 left the write of line 15, which may have failed [write]
+      done     block 8 is as before the run: the write of line 15 gave it nothing
   $ { write b '' ''; echo $back; echo 'send 6 part.access 0 { clean { } else { fault part } }'; echo $wait; echo 'send 13 { clean & state=tran { done } else { fault part } }'
   >   } | up emmc | sdv verify - | grep done
   -:18:32: warning: done may come where line 16 left the write of line 14, which may have failed [write]
+      done     block 8 is as before the run: the write of line 14 gave it nothing
+
+Each write and each erase is followed on its own: a write that nothing confirms hides none behind it.
+
+  $ up() { sed '/^done/d; s/^nums cap/nums cap b/' $EXAMPLES/$1_bring_up.sdv; echo 'if cap >= 16 { let b = 8 } else { fault small }'; cat; }
+  $ { echo "send 24 at by hc b { clean { give { ok { let b = 9 $wait } else { fault cut } } } else { fault lost } }"
+  >   echo "send 24 at by hc b { clean { give { ok { $wait send 13 { state=tran { done } else { fault late } } } else { fault cut } } } else { fault lost } }"
+  >   } | up sd | sdv verify --no-run - | grep done
+  -:16:130: warning: done may come where line 15 left the write of line 15, which may have failed [write]
+  -:16:130: warning: done may come where the write of line 16 was lost or cut, or its error passed over [write]
 
 A write that is sent once more after its blocks were given counts from there on.
 
@@ -167,6 +224,9 @@ A write that is sent once more after its blocks were given counts from there on.
   -:16:30: note: runs may give different numbers of blocks before this one, as where a write is tried again [input-shifts]
   -:18:10: warning: done may come where the write of line 16 was lost or cut, or its error passed over [write]
       hint     end the run in a fault, or do it again, where it is lost, cut or answered with an error
+      card     an SD card with block addresses, of 1024 blocks
+      mishap   line 16: CMD24 is lost, 2 times
+      done     block 8 is as before the run: the write of line 16 gave it nothing
   -: accepted, at most 6010 commands, gives at most 2 blocks (1 warning, 1 note)
   [1]
 
@@ -187,9 +247,18 @@ write in front of both, and one that is tried again before it gave blocks, take 
   shifted.sdv:24:30: note: runs may give different numbers of blocks before this one, as where a write is tried again [input-shifts]
   shifted.sdv:25:32: note: no run comes to CMD12 [unreached]
   shifted.sdv:26:32: warning: done may come where line 21 left the write of line 15, which may have failed [write]
+      card     an SD card with block addresses, of 1024 blocks
+      mishap   line 18: the phase of 1 block to the card stores nothing, and a later status shows the error
+      done     block 1 is not the one that the write of line 15 gave
   shifted.sdv:26:32: warning: done may come where line 24 left the write of line 21, which may have failed [write]
+      card     an SD card with block addresses, of 1024 blocks
+      mishap   line 21: the phase of 1 block to the card is cut
+      done     block 2 is not the one that the write of line 21 gave
   shifted.sdv:26:32: warning: done may come where the write of line 24 was lost or cut, or its error passed over [write]
       hint     end the run in a fault, or do it again, where it is lost, cut or answered with an error
+      card     an SD card with block addresses, of 1024 blocks
+      mishap   line 24: the phase of 1 block to the card stores nothing, and a later status shows the error
+      done     block 3 is not the one that the write of line 24 gave
   shifted.sdv: accepted, at most 2138 commands, gives at most 7 blocks (3 warnings, 4 notes)
   18:give { ok { } else { fault cut } }
   21:loop 3 { send 24 at by hc 2 { clean { give { ok { } else { } } } else { fault lost } }
@@ -302,22 +371,30 @@ pair, nor by another last block; and without CMD38 it is not done.
   > done
   -:17:1: warning: done may come where the erase of line 15 was begun without CMD38 [erase]
       hint     end the run in a fault, or do it again, where it is lost, cut or answered with an error
+      card     an SD card with block addresses, of 1024 blocks
+      mishap   none
+      done     block 8 is not erased
   -: accepted, at most 2009 commands (1 warning)
   -: accepted, at most 2019 commands
   -:16:173: warning: done may come where line 18 left the erase of line 16, which may have failed [erase]
   -: accepted, at most 2019 commands (1 warning)
   -:21:115: warning: done may come where line 17 left the erase of line 19, which may have failed [erase]
   -:21:115: warning: done may come where line 19 left the erase of line 17, which may have failed [erase]
+      done     block 8 is not erased
   -:21:115: warning: done may come where line 17 left the erase of line 15, which may have failed [erase]
   -:21:115: warning: done may come where line 19 left the erase of line 15, which may have failed [erase]
   -:16:1: warning: done may come where the erase of line 14 was begun without CMD38 [erase]
       hint     end the run in a fault, or do it again, where it is lost, cut or answered with an error
+      card     an e.MMC device with block addresses, of 1024 blocks
+      mishap   none
+      done     block 8 is not erased
   -: accepted, at most 1009 commands (1 warning)
   -: accepted, at most 1019 commands
   -:15:175: warning: done may come where line 17 left the erase of line 15, which may have failed [erase]
   -: accepted, at most 1019 commands (1 warning)
   -:20:117: warning: done may come where line 16 left the erase of line 18, which may have failed [erase]
   -:20:117: warning: done may come where line 18 left the erase of line 16, which may have failed [erase]
+      done     block 8 is not erased
   -:20:117: warning: done may come where line 16 left the erase of line 14, which may have failed [erase]
   -:20:117: warning: done may come where line 18 left the erase of line 14, which may have failed [erase]
 
@@ -406,7 +483,8 @@ A number of blocks above 64 bits is not told.
   > } else { } } else { } } else { }
   > fault end
   > END
-  -: accepted, at most 2008 commands, gives at most 18445618199572250625 blocks
+  -:15:27: note: loop 65535 never turns twice: each way through its body leaves it [loop-once]
+  -: accepted, at most 2008 commands, gives at most 18445618199572250625 blocks (1 note)
   $ { grep -v '^done' $EXAMPLES/sd_bring_up.sdv; cat << 'END'; } | sdv verify -
   > if cap >= 70000 { } else { fault small }
   > loop 65535 { loop 65535 { loop 65535 { loop 65535 {
@@ -414,7 +492,31 @@ A number of blocks above 64 bits is not told.
   > } else { } } else { } } else { } } else { }
   > fault end
   > END
-  -: accepted, at most 2008 commands
+  -:15:40: note: loop 65535 never turns twice: each way through its body leaves it [loop-once]
+  -: accepted, at most 2008 commands (1 note)
+
+Loops that never turn twice, since each way through the body leaves them: a loop that is to try a command again, and one in another.
+A comment or a word allows the note; a loop of one turn has none, and a refused script has it too.
+
+  $ up() { grep -v '^done' $EXAMPLES/sd_bring_up.sdv; cat; }
+  $ up << 'END' > once.sdv
+  > loop 3 { send 13 { clean & state=tran { break } else { fault lost } } } else { fault lost }
+  > loop 2 { loop 5 { send 13 { clean { break } else { break } } } else { } } else { }
+  > loop 1 { send 13 { else { break } } } else { }
+  > loop 9 { send 13 { clean { done } else { fault end } } } else { fault end } # allow: loop-once
+  > END
+  $ sdv verify once.sdv; sdv verify --allow loop-once --allow unreached --allow unread once.sdv
+  once.sdv:3:7: note: hc is never read [unread]
+  once.sdv:4:6: note: cap is never read [unread]
+  once.sdv:14:1: note: loop 3 never turns twice: each way through its body leaves it [loop-once]
+  once.sdv:15:10: note: loop 5 never turns twice: each way through its body leaves it [loop-once]
+  once.sdv: accepted, at most 2012 commands (4 notes)
+  once.sdv: accepted, at most 2012 commands
+  $ sed 's/^loop 2/send 9 { else { } } loop 2/' once.sdv | sdv verify --no-run - | grep 'error\|loop'
+  -:14:1: note: loop 3 never turns twice: each way through its body leaves it [loop-once]
+  -:15:1: error: CMD9 is not legal in tran state [state]
+  -:15:30: note: loop 5 never turns twice: each way through its body leaves it [loop-once]
+  -: refused (1 error, 2 notes)
 
 What certify refuses.
 

@@ -116,8 +116,14 @@ What a verdict says of partitions, and of an erase that was not begun whole.
   $ { up; echo 'send 32 at by hc 8 { clean { } else { done } } done'; } | sdv verify -
   -:15:39: warning: done may come where the erase of line 15 was begun without a last block [erase]
       hint     end the run in a fault, or do it again, where it is lost, cut or answered with an error
+      card     an SD card with block addresses, of 1024 blocks
+      mishap   line 15: CMD32 is lost
+      done     block 8 is not erased
   -:15:48: warning: done may come where the erase of line 15 was begun without a last block [erase]
       hint     end the run in a fault, or do it again, where it is lost, cut or answered with an error
+      card     an SD card with block addresses, of 1024 blocks
+      mishap   none
+      done     block 8 is not erased
   -: accepted, at most 2008 commands (2 warnings)
   [1]
 

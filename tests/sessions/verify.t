@@ -123,6 +123,9 @@ What a review finds: of data a warning, of names and tests a note, which does no
   $ sdv verify open.sdv
   open.sdv:16:1: warning: done may come before the write of line 15 is confirmed [write]
       hint     behind the wait, `send 13 { clean & state=tran { .. } else { .. } }` shows that it is stored
+      card     an SD card with block addresses, of 1024 blocks
+      mishap   line 15: the phase of 1 block to the card stores nothing, and a later status shows the error
+      done     block 8 is not the one that the write of line 15 gave
   open.sdv:17:1: note: no run comes to fault write [unreached]
   open.sdv: accepted, at most 2008 commands, gives at most 1 block (1 warning, 1 note)
   [1]
@@ -137,6 +140,9 @@ What a review finds: of data a warning, of names and tests a note, which does no
   $ sdv verify other.sdv
   other.sdv:16:1: warning: done may come before the write of line 15 is confirmed [write]
       hint     behind the wait, `send 13 { clean & state=tran { .. } else { .. } }` shows that it is stored
+      card     an SD card with block addresses, of 1024 blocks
+      mishap   line 15: the phase of 1 block to the card stores nothing, and a later status shows the error
+      done     block 8 is not the one that the write of line 15 gave
   other.sdv:17:1: note: no run comes to fault write [unreached]
   other.sdv: accepted, at most 2008 commands, gives at most 1 block (1 warning, 1 note)
   [1]

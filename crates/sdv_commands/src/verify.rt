@@ -9,13 +9,12 @@ ghost use Rattle.sdv_commands.specs.Verify.{IsToldOf, IsUnsaved, VerifyEnds, is_
 use crate::report::print_report;
 use sdv_named_schedules::schedule_text;
 use sdv_program::{Fault, Store, VerifyWords, leave, text_in};
-use sdv_search::Refutation;
-use sdv_verdict::{Allowed, Form, RunNames, Runs, run_names, tell, tell_unread};
-use std::alloc::Global;
+use sdv_verdict::{Allowed, Form, Runs, Told, run_names, tell, tell_unread};
+use std::alloc::{AllocError, Global};
 use std::io::Write;
 
 /// Prints the verdicts on the scripts of files, in their order. A file that cannot be used is named, and the others are judged.
-/// Where a folder is named, it first takes the card and the schedule of each run that breaks a script.
+/// Where a folder is named, it first takes what each run needs that was found.
 ///
 /// # Errors
 ///
@@ -76,7 +75,7 @@ fn verify_file<'a, S: Store>(
     let told = tell(alloc, file, allowed, runs_of(words, *saved), form)?;
     page.extend_from_slice(&told.page)?;
     if let Some(folder) = words.save {
-        save_runs(alloc, files, words, &told.runs, folder, saved)?;
+        save_runs(alloc, files, words, &told, folder, saved)?;
     }
     Ok(fault_if(!told.is_clear))
 }
@@ -97,7 +96,15 @@ fn runs_of<'a>(words: &VerifyWords<'a>, before: u64) -> Runs<'a> {
     }
 }
 
-/// Writes the cards and the schedules of runs to their files in a folder, where so many were saved before.
+/// What a run needs.
+#[derive(Clone, Copy)]
+struct Needs<'r> {
+    card: &'r str,
+    schedule: &'r [u8],
+    input: &'r [[u8; 512]],
+}
+
+/// Writes what the runs that were found of a script need to files in a folder, where so many were saved before.
 ///
 /// # Errors
 ///
@@ -106,21 +113,32 @@ fn save_runs<'a, S: Store>(
     alloc: Global,
     files: &S,
     words: &VerifyWords<'a>,
-    runs: &[Refutation],
+    told: &Told,
     folder: &'a str,
     saved: &mut u64,
 ) -> Result<(), Fault<'a>>
     ensures { IfErr result (λ fault. (fault ≡ Fault.Memory) ⊎ (fault ≡ Fault.File folder.entry)) }
 {
-    for run in runs {
-        *saved = saved.saturating_add(1);
-        let names = run_names(alloc, folder, *saved)?;
-        save_run(alloc, files, words, &names, run, folder)?;
+    for run in &told.runs {
+        let needs = Needs {
+            card: run.card.as_str(),
+            schedule: run.schedule.as_slice(),
+            input: &[],
+        };
+        save_run(alloc, files, words, needs, folder, saved)?;
+    }
+    for loss in &told.losses {
+        let needs = Needs {
+            card: loss.card.as_str(),
+            schedule: loss.schedule.as_slice(),
+            input: loss.input.as_slice(),
+        };
+        save_run(alloc, files, words, needs, folder, saved)?;
     }
     Ok(())
 }
 
-/// Writes the card and the schedule of a run to their files, neither of which is one of the scripts.
+/// Writes what a run needs to its files, none of which is one of the scripts. There is none for blocks where it gives none.
 ///
 /// # Errors
 ///
@@ -130,25 +148,39 @@ fn save_run<'a, S: Store>(
     alloc: Global,
     files: &S,
     words: &VerifyWords<'a>,
-    names: &RunNames,
-    run: &Refutation,
+    needs: Needs<'_>,
     folder: &'a str,
+    saved: &mut u64,
 ) -> Result<(), Fault<'a>>
     ensures { IfErr result (λ fault. (fault ≡ Fault.Memory) ⊎ (fault ≡ Fault.File folder.entry)) }
 {
-    let schedule = schedule_text(alloc, run.schedule.as_slice())?;
-    let card = names.card.as_str();
-    let is_script = |name: &str| words.files.iter().any(|file| files.is_same(file, name));
-    if is_script(card) || is_script(names.schedule.as_str()) {
-        return Err(Fault::File(folder));
-    }
-    let is_left = leave(files, Some(card), run.card.as_bytes()).is_ok()
-        && leave(files, Some(names.schedule.as_str()), schedule.as_slice()).is_ok();
+    *saved = saved.saturating_add(1);
+    let names = run_names(alloc, folder, *saved)?;
+    let schedule = schedule_text(alloc, needs.schedule)?;
+    let blocks = bytes_of(alloc, needs.input)?;
+    let is_left = is_saved(files, words, names.card.as_str(), needs.card.as_bytes())
+        && is_saved(files, words, names.schedule.as_str(), schedule.as_slice())
+        && (blocks.is_empty() || is_saved(files, words, names.input.as_str(), blocks.as_slice()));
     if is_left {
         Ok(())
     } else {
         Err(Fault::File(folder))
     }
+}
+
+/// A file takes the bytes, and it is none of the scripts.
+fn is_saved<S: Store>(files: &S, words: &VerifyWords<'_>, file: &str, bytes: &[u8]) -> bool {
+    let is_script = words.files.iter().any(|other| files.is_same(other, file));
+    !is_script && leave(files, Some(file), bytes).is_ok()
+}
+
+/// The bytes of blocks, one after another.
+fn bytes_of(alloc: Global, blocks: &[[u8; 512]]) -> Result<Vec<u8>, AllocError> {
+    let mut bytes = Vec::new(alloc);
+    for block in blocks {
+        bytes.extend_from_slice(block)?;
+    }
+    Ok(bytes)
 }
 
 /// Of two faults the one by which a command ends that meets both: a file that cannot be used weighs more than a finding, and the

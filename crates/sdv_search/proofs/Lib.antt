@@ -1,2 +1,3 @@
+pub mod LossLaws
 pub mod RefutedLaws
 pub mod SweptLaws

@@ -1,3 +1,4 @@
+pub mod Losses
 pub mod Refuted
 pub mod Swept
 pub mod Table

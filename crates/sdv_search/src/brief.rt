@@ -79,7 +79,8 @@ pub fn run_lines(
     graph: &Graph<'_>,
     run: &Refutation,
 ) -> Result<Vec<u8>, AllocError> {
-    let mut text = mishaps_in_words(alloc, graph, "    mishap   ", run)?;
+    let beside = (run.card.as_str(), run.schedule.as_slice());
+    let mut text = mishaps_in_words(alloc, graph, "    mishap   ", beside)?;
     put(&mut text, "    wrong    ")?;
     write_wrong_event(wrong_event(&run.wrong), &mut text).map_err(|_| AllocError)?;
     Ok(text)

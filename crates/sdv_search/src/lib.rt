@@ -8,6 +8,9 @@
 //! - `refute` returns only a refutation, with its description, schedule and trace; or, by `none_breaks`, that no path
 //!   breaks the script; or, by `find_break`, a path that does; or that `certify` writes no certificate. That no run
 //!   was found claims nothing else.
+//! - `find_losses` returns only runs of an accepted script that end in `done` and leave a block that is not as the run wants it:
+//!   not the one that was given for it, or not erased, or as before where none was given (`specs/Losses.antt`). That a later
+//!   write or erase does not reach the block, and which command asked for it, is not proved.
 //! - `sweep` returns the end of the run without a mishap and a row for each event that it made; a row has the ends of
 //!   the runs with each mishap at its event, each over the same image (`IsSweep`). Which mishaps are told, and the
 //!   counts of a search, are not proved.
@@ -21,12 +24,18 @@ mod capacities;
 mod cards;
 mod codes;
 mod exits;
+mod fate;
+mod ledger;
 mod limit;
+mod losing;
+mod loss;
+mod loss_words;
 mod mishaps;
 mod paths;
 mod progress;
 mod quiet;
 mod refuting;
+mod sparse_image;
 mod spot;
 mod sweeping;
 mod table;
@@ -36,6 +45,10 @@ mod turns;
 pub use beyond::{Beyond, run_on};
 pub use breaking::path_lines;
 pub use brief::{run_lines, shown_run};
+pub use ledger::{Lack, Why};
+pub use losing::find_losses;
+pub use loss::{Doubt, Loss};
+pub use loss_words::{left_words, loss_lines};
 pub use refuting::{Found, Refutation, refute};
 pub use sweeping::{Cell, Row, RunEnd, SweepGiven, SweepTable, SweepWatcher, sweep};
 pub use table::{TableForm, fails, table_text};

@@ -1,6 +1,6 @@
 //! The mishaps of a run in words, with the lines of the script.
 
-use crate::refuting::{Refutation, blank_image, input_of};
+use crate::refuting::{blank_image, input_of};
 use sdv_behavior::{CardDesc, Mishap};
 use sdv_controller::Controller;
 use sdv_graph::Graph;
@@ -63,20 +63,19 @@ impl Onlooker<Controller<Sim<BlankImage>>> for Recorder<'_> {
     }
 }
 
-/// The mishaps of a run that refutes a script.
+/// The mishaps of a run of a script, by the description of its card and the values of its schedule.
 fn mishaps_of(
     alloc: Global,
     graph: &Graph<'_>,
-    refutation: &Refutation,
+    (card, schedule): (&str, &[u8]),
 ) -> Result<Vec<SeenMishap>, AllocError> {
-    let schedule = refutation.schedule.as_slice();
     let mut recorder = Recorder {
         schedule,
         event: 0,
         mishaps: Vec::new(alloc),
         failed: false,
     };
-    let Ok(desc) = CardDesc::parse(refutation.card.as_str()) else {
+    let Ok(desc) = CardDesc::parse(card) else {
         return Err(AllocError);
     };
     let image = blank_image(&desc);
@@ -192,8 +191,8 @@ fn put_mishap(
     }
 }
 
-/// The mishaps of a run that refutes a script, a line each behind a label, with the lines of the script; or, behind the
-/// label, that there is none.
+/// The mishaps of a run of a script, by the description of its card and the values of its schedule: a line each behind a label,
+/// with the lines of the script; or, behind the label, that there is none.
 ///
 /// # Errors
 ///
@@ -202,9 +201,9 @@ pub(crate) fn mishaps_in_words(
     alloc: Global,
     graph: &Graph<'_>,
     label: &str,
-    refutation: &Refutation,
+    run: (&str, &[u8]),
 ) -> Result<Vec<u8>, AllocError> {
-    let mishaps = mishaps_of(alloc, graph, refutation)?;
+    let mishaps = mishaps_of(alloc, graph, run)?;
     let mut text = Vec::new(alloc);
     if mishaps.is_empty() {
         put(&mut text, label)?;

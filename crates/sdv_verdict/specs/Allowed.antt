@@ -47,6 +47,11 @@ abbrev pub is_allowed : (text : Text) (kinds : List Text) → Graph → Finding 
 is_allowed text kinds g f =
     list_any (λ kind. bytes_eq kind (kind_word f.matter)) kinds || allowed_there text (kind_word f.matter) g f.point
 
+-- a note of a kind at a statement
+abbrev pub is_note_allowed : (text : Text) (kinds : List Text) (kind : Text) → Graph → (point : ℕ) → Bool
+is_note_allowed text kinds kind g point =
+    list_any (λ other. bytes_eq other kind) kinds || allowed_there text kind g (Some point)
+
 -- WHAT COUNTS
 
 -- it is a note, or allowed

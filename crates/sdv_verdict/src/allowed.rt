@@ -3,7 +3,7 @@
 ghost use Rattle.std.specs.List.{list_any};
 ghost use Rattle.std.specs.Prelude.{◌≡◌, map};
 ghost use Rattle.std.specs.Str.{bytes_eq};
-ghost use Rattle.sdv_verdict.specs.Allowed.{allowed_there, allows, are_quiet, before, ends_in, is_allowed, is_clear, is_quiet, is_warning};
+ghost use Rattle.sdv_verdict.specs.Allowed.{allowed_there, allows, are_quiet, before, ends_in, is_allowed, is_clear, is_note_allowed, is_quiet, is_warning};
 
 use crate::judging::Verdict;
 use sdv_explain::text_line;
@@ -72,6 +72,13 @@ impl Allowed<'_> {
     {
         let word = kind_word(finding.matter);
         self.names(word) || self.allows_there(word, graph, finding.point)
+    }
+
+    /// A note of a kind at the statement of a point is allowed.
+    pub fn allows_note(self, kind: &str, graph: &Graph<'_>, point: usize) -> bool
+        ensures { result ≡ is_note_allowed self.entry.text.now (map (λ kind. kind.now) self.entry.kinds.now) kind.now graph.now point }
+    {
+        self.names(kind) || self.allows_there(kind, graph, Some(point))
     }
 
     /// The kind is among those that are allowed in all of the script.

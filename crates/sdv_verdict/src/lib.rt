@@ -7,7 +7,7 @@
 //!   failures are those of the survey, all of them; the findings are those of the review. Its fault is the parser's.
 //! - `is_clear`: nothing of the verdict counts but what is allowed, by a kind that is named or by a comment at the end of the
 //!   finding's line (`specs/Allowed.antt`).
-//! - Columns, further faults of a text and all words are tested, not proved.
+//! - Columns, further faults of a text, loops that never turn twice, and all words are tested, not proved.
 #![tactic(auto)]
 
 mod allowed;
@@ -15,6 +15,7 @@ mod causes;
 mod columns;
 mod hints;
 mod judging;
+mod loops;
 mod page;
 mod remark;
 mod run;

@@ -5,18 +5,19 @@ ghost use Rattle.sdv_check.specs.Verified.{IsNoScript};
 ghost use Rattle.sdv_script.specs.OneGraph.{IsGraphOfScript};
 ghost use Rattle.sdv_script.specs.Script.{IsScript};
 ghost use Rattle.sdv_script.specs.Shown.{shown};
+ghost use Rattle.sdv_search.specs.Losses.{IsLoss};
 ghost use Rattle.sdv_search.specs.Refuted.{IsRefutation};
 ghost use Rattle.sdv_verdict.specs.Told.{IsTold, IsToldByVerdict};
 
 use crate::allowed::Allowed;
 use crate::judging::{Verdict, judge};
 use crate::remark::{Remark, Severity};
-use crate::run::{Below, Runs, path_told, runs_told, text_of};
+use crate::run::{Below, Runs, doubts_of, losses_told, path_told, runs_told, text_of};
 use crate::telling::{Subject, fault_remarks, remarks_of, unread_remark};
 use sdv_explain::faults_of;
 use sdv_graph::Graph;
 use sdv_script::{FaultKind, Script, ScriptFault, parse};
-use sdv_search::{Found, Refutation, refute};
+use sdv_search::{Found, Loss, Refutation, find_losses, refute};
 use sdv_telling::{Text, put, put_all, put_number, put_numbered};
 use serde_json::{Value, json};
 use std::alloc::{AllocError, Global};
@@ -42,6 +43,8 @@ pub struct Told {
     pub is_clear: bool,
     /// Runs that refute the script, if some were sought and found.
     pub runs: Vec<Refutation>,
+    /// Runs of an accepted script that lose data, if some were.
+    pub losses: Vec<Loss>,
 }
 
 /// What is told of a script by the name of its file: each fault of a text that is none, each statement that is refused, and what
@@ -60,6 +63,7 @@ pub fn tell(
     ensures told { IfOk result (λ told. IsTold allowed.entry.text.now (map (λ kind. kind.now) allowed.entry.kinds.now)
         told.is_clear) }
     ensures runs { IfOk result (λ told. All (IsRefutation allowed.entry.text.now) told.runs.items) }
+    ensures losses { IfOk result (λ told. All (IsLoss allowed.entry.text.now) told.losses.items) }
 {
     match parse(alloc, allowed.text) {
         Ok(script) => tell_script(alloc, file, &script, allowed, runs, form),
@@ -94,6 +98,7 @@ fn tell_faults(
 ) -> Result<Told, AllocError>
     requires { fault.kind ≢ FaultKind.Memory → IsNoScript allowed.text.now }
     ensures runs { IfOk result (λ told. told.runs.items ≡ []) }
+    ensures losses { IfOk result (λ told. told.losses.items ≡ []) }
     ensures told { IfOk result (λ told. IsTold allowed.entry.text.now (map (λ kind. kind.now) allowed.entry.kinds.now)
         told.is_clear) }
 {
@@ -111,6 +116,7 @@ fn tell_faults(
         page: page_of(alloc, said, form)?,
         is_clear: false,
         runs: Vec::new(alloc),
+        losses: Vec::new(alloc),
     })
 }
 
@@ -128,6 +134,7 @@ fn tell_script(
     ensures told { IfOk result (λ told. IsToldByVerdict allowed.entry.text.now
         (map (λ kind. kind.now) allowed.entry.kinds.now) told.is_clear) }
     ensures runs { IfOk result (λ told. All (IsRefutation allowed.entry.text.now) told.runs.items) }
+    ensures losses { IfOk result (λ told. All (IsLoss allowed.entry.text.now) told.losses.items) }
 {
     let Ok(graph) = script.graph(alloc) else {
         return Err(AllocError);
@@ -139,16 +146,9 @@ fn tell_script(
         graph: &graph,
     };
     let found = search_of(alloc, script, &graph, &verdict, runs)?;
-    let Found {
-        refutations,
-        unbreakable,
-        broken,
-    } = found;
-    let remarks = remarks_of(alloc, subject, &verdict, unbreakable)?;
-    let mut below = runs_told(alloc, file, &graph, (&refutations, runs), &remarks)?;
-    if let Some(path) = broken {
-        below.push(path_told(alloc, &graph, &path, &remarks)?)?;
-    }
+    let remarks = remarks_of(alloc, subject, &verdict, found.unbreakable)?;
+    let losses = losses_of(alloc, script, &graph, &remarks, runs)?;
+    let below = below_of(alloc, file, &graph, (&found, &losses, runs), &remarks)?;
     let said = Said {
         file,
         remarks: &remarks,
@@ -156,11 +156,33 @@ fn tell_script(
         outcome: outcome_of(&verdict),
     };
     let page = page_of(alloc, said, form)?;
+    let Found {
+        refutations,
+        unbreakable: _,
+        broken: _broken,
+    } = found;
     Ok(Told {
         page,
         is_clear,
         runs: refutations,
+        losses,
     })
+}
+
+/// What stands below the remarks: runs that refute the script or lose data, and what is told of a path.
+fn below_of(
+    alloc: Global,
+    file: &str,
+    graph: &Graph<'_>,
+    (found, losses, runs): (&Found, &[Loss], Runs<'_>),
+    remarks: &[Remark],
+) -> Result<Vec<Below>, AllocError> {
+    let mut below = runs_told(alloc, file, graph, (&found.refutations, runs), remarks)?;
+    below.append(&mut losses_told(alloc, file, graph, (losses, runs), remarks)?)?;
+    if let Some(path) = &found.broken {
+        below.push(path_told(alloc, graph, path, remarks)?)?;
+    }
+    Ok(below)
 }
 
 /// What is found against a script that is refused at points, if runs are looked for.
@@ -189,6 +211,25 @@ fn search_of(
             broken: None,
         }),
     }
+}
+
+/// Runs of a script that lose data, one for each doubt of these remarks, if runs are looked for.
+fn losses_of(
+    alloc: Global,
+    script: &Script<'_>,
+    graph: &Graph<'_>,
+    remarks: &[Remark],
+    runs: Runs<'_>,
+) -> Result<Vec<Loss>, AllocError>
+    requires script { IsScript (shown script.now) }
+    requires graph { IsGraphOfScript (shown script.now) graph.now }
+    ensures { IfOk result (λ found. All (IsLoss (shown script.now).text) found.items) }
+{
+    if !runs.are_sought() {
+        return Ok(Vec::new(alloc));
+    }
+    let doubts = doubts_of(alloc, remarks)?;
+    find_losses(alloc, script, graph, &doubts, BUDGET)
 }
 
 /// How a script is judged.

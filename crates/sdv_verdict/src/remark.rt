@@ -2,6 +2,7 @@
 
 use crate::columns::Place;
 use sdv_card::Shape;
+use sdv_search::Doubt;
 use sdv_telling::Text;
 
 /// How much a remark weighs.
@@ -45,4 +46,6 @@ pub struct Remark {
     pub point: Option<usize>,
     /// The shape of that card.
     pub shape: Option<Shape>,
+    /// The `done`, and the write or the erase that may not have been made there, if it is of one.
+    pub doubt: Option<Doubt>,
 }

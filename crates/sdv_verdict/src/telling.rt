@@ -5,13 +5,15 @@ use crate::causes::{Cause, causes_of};
 use crate::columns::{Place, place_of_name, place_of_point, statement_places};
 use crate::hints::{finding_hint, put_hint};
 use crate::judging::Verdict;
+use crate::loops::loops_once;
 use crate::remark::{Remark, Severity};
 use sdv_explain::{TextFault, TextFaults};
 use sdv_facts::Certificate;
-use sdv_graph::Graph;
-use sdv_review::{Finding, Matter, Name, kind_word, matter_words};
+use sdv_graph::{Action, Graph};
+use sdv_review::{Finding, Matter, Name, Status, kind_word, matter_words};
 use sdv_script::FaultKind;
-use sdv_telling::{Beside, Text, put_reason, put_shape, refused_word};
+use sdv_search::Doubt;
+use sdv_telling::{Beside, Text, put_numbered, put_reason, put_shape, refused_word};
 use std::alloc::{AllocError, Global};
 
 /// What is said where a script has too many shapes, or a run may send too many commands.
@@ -56,6 +58,7 @@ fn fault_remark(alloc: Global, fault: TextFault) -> Remark {
         hint: Vec::new(alloc),
         point: None,
         shape: None,
+        doubt: None,
     }
 }
 
@@ -108,6 +111,7 @@ pub fn remarks_of(
             add_findings(alloc, subject, &places, writes, &mut remarks)?;
         }
     }
+    add_loops(alloc, subject, &places, &mut remarks)?;
     remarks.sort_by_key(|remark| (remark.place.line, remark.place.column))?;
     if is_unbroken {
         let place = match remarks.first() {
@@ -117,6 +121,57 @@ pub fn remarks_of(
         remarks.push(unbroken_remark(alloc, place)?)?;
     }
     Ok(remarks)
+}
+
+/// The word for a loop that never turns twice.
+const LOOP_ONCE: &str = "loop-once";
+
+/// Adds what is said of loops that never turn twice.
+fn add_loops(
+    alloc: Global,
+    subject: Subject<'_, '_>,
+    places: &[Place],
+    remarks: &mut Vec<Remark>,
+) -> Result<(), AllocError> {
+    let Subject { allowed, graph } = subject;
+    for point in loops_once(alloc, graph)? {
+        if !allowed.allows_note(LOOP_ONCE, graph, point) {
+            remarks.push(loop_remark(alloc, graph, point, place_of_point(graph, places, point))?)?;
+        }
+    }
+    Ok(())
+}
+
+/// What is said of a loop that never turns twice.
+fn loop_remark(
+    alloc: Global,
+    graph: &Graph<'_>,
+    point: usize,
+    place: Place,
+) -> Result<Remark, AllocError> {
+    let mut words = Vec::new(alloc);
+    if point < graph.len() {
+        if let Action::Loop(turns, _, _) = &graph.point(point).action {
+            let turns = u64::from(*turns);
+            put_numbered(
+                &mut words,
+                "loop ",
+                turns,
+                " never turns twice: each way through its body leaves it",
+            )?;
+        }
+    }
+    Ok(Remark {
+        place,
+        severity: Severity::Note,
+        kind: LOOP_ONCE,
+        words,
+        card: Vec::new(alloc),
+        hint: Vec::new(alloc),
+        point: Some(point),
+        shape: None,
+        doubt: None,
+    })
 }
 
 /// What is said where a script is refused that no path of the state tables breaks.
@@ -130,6 +185,7 @@ fn unbroken_remark(alloc: Global, place: Place) -> Result<Remark, AllocError> {
         hint: Vec::new(alloc),
         point: None,
         shape: None,
+        doubt: None,
     })
 }
 
@@ -144,6 +200,7 @@ pub fn unread_remark(alloc: Global) -> Result<Remark, AllocError> {
         hint: Vec::new(alloc),
         point: None,
         shape: None,
+        doubt: None,
     })
 }
 
@@ -158,6 +215,7 @@ fn too_many(alloc: Global) -> Result<Remark, AllocError> {
         hint: Vec::new(alloc),
         point: None,
         shape: None,
+        doubt: None,
     })
 }
 
@@ -179,6 +237,7 @@ fn failure_remark(
         hint: Vec::new(alloc),
         point: Some(point),
         shape: Some(shape),
+        doubt: None,
     };
     let (_table, points) = known.shown();
     if let Some(here) = points.get(point) {
@@ -247,6 +306,28 @@ fn finding_remark(
         hint: Vec::from_slice(alloc, finding_hint(finding.matter).as_bytes())?,
         point: finding.point,
         shape: None,
+        doubt: doubt_of(finding),
+    })
+}
+
+/// The point of the command of the write or the erase of a status.
+fn command_of(status: Status) -> Option<usize> {
+    match status {
+        Status::Open(write) | Status::Failed(write) | Status::Left { write, .. } => Some(write),
+        Status::EraseOpen(erase) | Status::EraseFailed(erase) => Some(erase.first),
+        Status::EraseLeft { erase, .. } => Some(erase),
+        Status::Quiet | Status::Unknown => None,
+    }
+}
+
+/// The `done` of a finding, and the write or the erase that may not have been made there.
+fn doubt_of(finding: &Finding) -> Option<Doubt> {
+    let Matter::Unstored(status) = finding.matter else {
+        return None;
+    };
+    Some(Doubt {
+        done: finding.point?,
+        command: command_of(status)?,
     })
 }
 
