@@ -1,0 +1,9 @@
+pub mod Driver
+pub mod NameAt
+pub mod Names
+pub mod Reading
+pub mod Rules
+pub mod Shown
+pub mod Tree
+pub mod Words
+pub mod Views
