@@ -101,13 +101,13 @@ pub flag-again : (names : Declared) (f : ℕ) (others : List Token) → NamesFit
     → read_flag names (flag_name names f ∷ others) ≡ Some (f, others)
 flag-again names f others fit lt = bind_is _ _ _ _ (flag_at names f fit lt) refl
 
-number_name-again : (names : Declared) (x : ℕ) (others : List Token) → NamesFit names → x < length names.numbers
+pub number_name-again : (names : Declared) (x : ℕ) (others : List Token) → NamesFit names → x < length names.numbers
     → read_number_name names (number_name names x ∷ others) ≡ Some (x, others)
 number_name-again names x others fit lt = bind_is _ _ _ _ (number_at names x fit lt) refl
 
 -- NUMBERS
 
-figure-again : (n : ℕ) (others : List Token) → n ≤ max_number → read_figure (Number n ∷ others) ≡ Some (n, others)
+pub figure-again : (n : ℕ) (others : List Token) → n ≤ max_number → read_figure (Number n ∷ others) ≡ Some (n, others)
 figure-again n others le = test_is _ _ _ (le-leb n max_number le) refl
 
 pub count-again : (n : ℕ) (others : List Token) → 1 ≤ n → n ≤ 65535 → read_count (Number n ∷ others) ≡ Some (n, others)
@@ -182,7 +182,7 @@ width-again k One others has = test_is _ _ _ has refl
 width-again k Four others has = test_is _ _ _ has refl
 width-again k Eight others has = test_is _ _ _ has refl
 
-partition-again : (p : Partition) (others : List Token) → read_partition (Number (partition_number p) ∷ others) ≡ Some (p, others)
+pub partition-again : (p : Partition) (others : List Token) → read_partition (Number (partition_number p) ∷ others) ≡ Some (p, others)
 partition-again User others = refl
 partition-again Boot1 others = refl
 partition-again Boot2 others = refl

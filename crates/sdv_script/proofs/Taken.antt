@@ -67,7 +67,7 @@ kind-took (Key word.Sd ∷ ts) = refl
 kind-took (Key word.Emmc ∷ ts) = refl
 kind-took ts = tt
 
-figure-took : (ts : List Token) → IfSome (read_figure ts) (λ x. (ts ≡ Number x.0 ∷ x.1) × (x.0 ≤ max_number))
+pub figure-took : (ts : List Token) → IfSome (read_figure ts) (λ x. (ts ≡ Number x.0 ∷ x.1) × (x.0 ≤ max_number))
 figure-took (Number n ∷ ts) = IfSome-given (nat_le n max_number) _ _ (λ e. (refl, leb-true n max_number e))
 figure-took ts = tt
 
@@ -106,7 +106,7 @@ pub flag-took : (names : Declared) (ts : List Token) → IfSome (read_flag names
 flag-took names (Name n ∷ ts) = IfSome-bind (place_of n names.flags) _ _ _ (place-took n names.flags) (λ f p. (ap (λ (m : List ℕ). Name m ∷ ts) (sym p.1), p.0))
 flag-took names ts = tt
 
-number_name-took : (names : Declared) (ts : List Token) → IfSome (read_number_name names ts)
+pub number_name-took : (names : Declared) (ts : List Token) → IfSome (read_number_name names ts)
     (λ x. (ts ≡ number_name names x.0 ∷ x.1) × (x.0 < length names.numbers))
 number_name-took names (Name n ∷ ts) = IfSome-bind (place_of n names.numbers) _ _ _ (place-took n names.numbers)
     (λ f p. (ap (λ (m : List ℕ). Name m ∷ ts) (sym p.1), p.0))
@@ -175,7 +175,7 @@ width-took k (Number n ∷ ts) =
     IfSome-bind (width_with n) _ _ _ (lines_counted n) (λ w e. IfSome-given (has_width k w) _ _ (λ has. (ap (λ (m : ℕ). Number m ∷ ts) e, has)))
 width-took k ts = tt
 
-partition-took : (ts : List Token) → IfSome (read_partition ts) (λ p. ts ≡ Number (partition_number p.0) ∷ p.1)
+pub partition-took : (ts : List Token) → IfSome (read_partition ts) (λ p. ts ≡ Number (partition_number p.0) ∷ p.1)
 partition-took (Number n ∷ ts) = IfSome-bind (partition_with n) _ _ _ (partition_numbered n) (λ p e. ap (λ (m : ℕ). Number m ∷ ts) e)
 partition-took ts = tt
 

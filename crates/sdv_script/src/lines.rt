@@ -16,7 +16,7 @@ use std::alloc::{AllocError, Global};
 
 /// What stands before a token.
 #[derive(Clone, Copy)]
-enum Before {
+pub enum Before {
     /// `send`.
     Send,
     /// `send`, and the index of a command.

@@ -1,4 +1,4 @@
-//! Printing a script.
+//! Printing the tokens of a text.
 
 ghost use Rattle.std.specs.Prelude.{◌≡◌, ◌++◌, ◌∷◌, ◌<◌, ◌≤◌, ℕ, List, [], true, false, length};
 ghost use Rattle.sdv_script.specs.Rules.{max_bytes};
@@ -24,7 +24,18 @@ use std::io::{Error, Write};
 pub fn print<W: Write>(script: &Script<'_>, out: &mut W) -> Result<(), Error>
     ensures { Writes (W.contents out.old) (W.contents out.new) result (printed (shown script.now).text) }
 {
-    let mut at = Cursor::new(script.text);
+    print_tokens(script.text, out)
+}
+
+/// Writes the tokens of a text, with one space after each, and then a line feed. Its comments are left out.
+///
+/// # Errors
+///
+/// Those of [`print`].
+pub fn print_tokens<W: Write>(text: &str, out: &mut W) -> Result<(), Error>
+    ensures { Writes (W.contents out.old) (W.contents out.new) result (printed text.now) }
+{
+    let mut at = Cursor::new(text);
     while !is_end(at) {
         if let Err(error) = put_spaced(out, at.text) {
             return Err(error);

@@ -1,7 +1,7 @@
 use Rattle.std.proofs.Common.{◌∙◌, ◌++◌, List, ℕ, ap}
 use Rattle.sdv_script.specs.Printed.{printed_pieces}
 use Rattle.sdv_script.proofs.Written.{piece_failed, piece_done, line_done}
-use Rattle.sdv_script.proofs.printing.print.Goals as goal
+use Rattle.sdv_script.proofs.printing.print_tokens.Goals as goal
 
 pub returns-in-Err : goal.returns-in-Err
 returns-in-Err g c =
