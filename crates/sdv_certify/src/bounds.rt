@@ -250,8 +250,25 @@ pub fn bound_forms(alloc: Global, script: &Script<'_>) -> Result<Vec<Form>, Cert
     ensures too_many { IfErr result (λ e. e ≡ CertifyFault.TooMany
         → All FormInLimits (map full_form (forms_of (shown script.now).body)) → ⊥) }
 {
+    block_forms(alloc, script.body())
+}
+
+/// The same of the points of a list of statements, outside of which there is no loop.
+///
+/// # Errors
+///
+/// Those of `bound_forms`.
+pub fn block_forms(alloc: Global, block: &Block<'_>) -> Result<Vec<Form>, CertifyFault>
+    requires few { statements_moves (statements_of block.now) < 2 ^ 128 }
+    requires turns { StatementsTurn (statements_of block.now) }
+    ensures forms { IfOk result (λ forms. forms.items ≡ map full_form (forms_of (statements_of block.now))) }
+    ensures limits { IfOk result (λ forms. All FormInLimits forms.items) }
+    ensures refused { IfErr result (λ e. e ≢ CertifyFault.Memory → e ≡ CertifyFault.TooMany) }
+    ensures too_many { IfErr result (λ e. e ≡ CertifyFault.TooMany
+        → All FormInLimits (map full_form (forms_of (statements_of block.now))) → ⊥) }
+{
     let mut forms = Vec::new(alloc);
-    put_block(alloc, &mut forms, script.body(), None, None)?;
+    put_block(alloc, &mut forms, block, None, None)?;
     forms.reverse();
     within_limits(alloc, &forms)
 }

@@ -18,6 +18,8 @@
 //!   accepts none.
 //! - `survey` answers from one fixpoint what is known at each point, and the refusal if there is one, also of a script
 //!   without a certificate; `certify`, `explain` and the drawing take the refusal from it.
+//! - `ways_of`, `join_way`, `first_fault`, `block_forms` and `point_facts` are the same steps for graphs that are no
+//!   script's.
 //! - `laws::surveys_carry`: what a survey says holds at the start and goes along each edge from where events are
 //!   legal. The other laws say that passes reach one family and that it is kept along each target and edge.
 #![tactic(auto)]
@@ -40,8 +42,14 @@ mod versions;
 mod ways;
 mod writing;
 
-pub use assembling::{ScriptSurvey, certify, survey};
+pub use assembling::{ScriptSurvey, certify, point_facts, survey};
+pub use bounds::block_forms;
 pub use fault::CertifyFault;
+pub use form::Form;
 pub use listed_facts::ListedFacts;
+pub use outcomes::Found;
+pub use passes::join_way;
+pub use refusal::first_fault;
 pub use sets::{facts_of_shapes, join_facts};
+pub use ways::{Way, ways_of};
 pub use writing::write;

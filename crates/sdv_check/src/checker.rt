@@ -171,7 +171,7 @@ fn first_fault<T: CardTable>(
 }
 
 /// What the turns of a loop that a run begins in cost.
-fn first_cost(enter: Option<u16>, costs: &[u64]) -> u64
+pub fn first_cost(enter: Option<u16>, costs: &[u64]) -> u64
     requires { All IsInLimits costs.now }
     ensures cost { result ≡ entering enter costs.now }
     ensures room { result < 2 ^ 63 }

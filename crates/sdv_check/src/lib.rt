@@ -14,6 +14,7 @@
 //!   certificate closed for the script's graph, unless memory is refused. Otherwise it names the first that fails
 //!   (`specs/Verified.antt`). Only `verify` makes an `Accepted`. Its clause `headline` is the promise of the whole
 //!   program (`EachRun` of `specs/Headline.antt`; `docs/PROVED.md`).
+//! - `point_fault`, `first_cost`, `costs` and `lines` ask and read the same of points that belong to no script.
 #![tactic(auto)]
 
 mod accepted;
@@ -28,7 +29,10 @@ mod turns;
 mod verifying;
 
 pub use accepted::Accepted;
-pub use checker::check;
+pub use checker::{check, first_cost};
+pub use clauses::point_fault;
 pub use fault::{CheckFault, VerifyFault};
-pub use text::{CertFault, one_certificate, read};
+pub use source::Source;
+pub use text::{CertFault, NamedPoints, TextCursor, lines, one_certificate, read};
+pub use turns::costs;
 pub use verifying::verify;

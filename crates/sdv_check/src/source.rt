@@ -57,9 +57,9 @@ pub struct Source<'g, 'a> {
     pub facts: &'g PointFacts,
     /// What the certificate says of each point, of as many number variables.
     pub certificate: &'g [PointFacts],
-    ghost own: { facts.now.facts.set < length table.now },
-    ghost named: { (i : ℕ) (q : PointFacts) → slice_get certificate.now i ≡ Some q
+    pub ghost own: { facts.now.facts.set < length table.now },
+    pub ghost named: { (i : ℕ) (q : PointFacts) → slice_get certificate.now i ≡ Some q
         → q.facts.set < length table.now },
-    ghost same: { (i : ℕ) (q : PointFacts) → slice_get certificate.now i ≡ Some q
+    pub ghost same: { (i : ℕ) (q : PointFacts) → slice_get certificate.now i ≡ Some q
         → length q.facts.numbers.vars.items ≡ length facts.now.facts.numbers.vars.items },
 }

@@ -6,5 +6,7 @@ mod items;
 mod points;
 mod reading;
 
+pub use cursor::TextCursor;
 pub use fault::CertFault;
-pub use reading::{one_certificate, read};
+pub use points::NamedPoints;
+pub use reading::{lines, one_certificate, read};

@@ -52,9 +52,13 @@ fn count(at: &mut TextCursor<'_>) -> Result<u64, CertFault>
     Ok(count)
 }
 
-// The points with their table of sets, behind the first line.
+/// The points with their table of sets, which stand behind the first line of a certificate's text.
+///
+/// # Errors
+///
+/// Those of [`read`], but [`CertFault::Header`].
 #[tactic(auto, unfolding(crate::specs::Reading::read_lines))]
-fn lines(alloc: Global, version: Version, at: TextCursor<'_>) -> Result<NamedPoints, CertFault>
+pub fn lines(alloc: Global, version: Version, at: TextCursor<'_>) -> Result<NamedPoints, CertFault>
     ensures read { Gives (λ x. points_in x.0 x.1.items) result (read_lines version at.entry.rest.now) }
     ensures named { IfOk result (λ x. All (IsNamed x.0) x.1.items) }
     ensures table { IfOk result (λ x. x.0 ≡ sets_of (points_in x.0 x.1.items)) }

@@ -1,25 +1,6 @@
--- The forms are those of the script, turned round.
-use Rattle.std.proofs.Common.{rules, ◌≡◌, map, reverse, All, IfOk, IfErr, ◌∙◌, subst}
 use Rattle.sdv_script.specs.Shown.{shown}
-use Rattle.sdv_certify.specs.Forms.{forms_of, full_form, FormInLimits}
-use Rattle.sdv_certify.specs.declared.fault.CertifyFault.{CertifyFault}
-use Rattle.sdv_certify.specs.declared.fault.CertifyFault.TheVariants.{TooMany}
-use Rattle.sdv_certify.proofs.TurnLaws.{script_turns, in_order}
+use Rattle.sdv_certify.proofs.TurnLaws.{script_turns}
 use Rattle.sdv_certify.proofs.bounds.bound_forms.Goals as goal
 
-pub put_block-requires-clause-turns : goal.put_block-requires-clause-turns
-put_block-requires-clause-turns c = rw c.body.ensures.body (script_turns (shown c.args.script.now) c.body.ensures.script)
-
-pub returns-clause-forms : goal.returns-clause-forms
-returns-clause-forms c =
-    let raw : map full_form c.put_block.new.forms.items ≡ reverse (map full_form (forms_of (shown c.args.script.now).body)) = search rules in
-    let same = in_order c.put_block.new.forms.items (forms_of (shown c.args.script.now).body) c.deref.result.now raw
-    (c.deref.ensures.value ∙ c.reverse.ensures.items) in
-    subst (λ l. IfOk c.within_limits.result (λ w. w.items ≡ l)) same c.within_limits.ensures.forms
-
-pub returns-clause-too_many : goal.returns-clause-too_many
-returns-clause-too_many c =
-    let raw : map full_form c.put_block.new.forms.items ≡ reverse (map full_form (forms_of (shown c.args.script.now).body)) = search rules in
-    let same = in_order c.put_block.new.forms.items (forms_of (shown c.args.script.now).body) c.deref.result.now raw
-    (c.deref.ensures.value ∙ c.reverse.ensures.items) in
-    subst (λ l. IfErr c.within_limits.result (λ (e : CertifyFault). e ≡ TooMany → All FormInLimits l → ⊥)) same c.within_limits.ensures.too_many
+pub block_forms-requires-clause-turns : goal.block_forms-requires-clause-turns
+block_forms-requires-clause-turns c = rw c.body.ensures.body (script_turns (shown c.args.script.now) c.body.ensures.script)
