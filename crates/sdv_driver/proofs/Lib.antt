@@ -1,1 +1,4 @@
 pub mod EntryLaws
+pub mod GraphLaws
+pub mod LinesFound
+pub mod Taken

@@ -1,4 +1,7 @@
 pub mod Driver
+pub mod Fits
+pub mod Grammar
+pub mod Lines
 pub mod NameAt
 pub mod Names
 pub mod Reading

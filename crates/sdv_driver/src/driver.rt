@@ -1,7 +1,9 @@
 //! Drivers.
 
+ghost use Rattle.std.specs.Prelude.{◌≡◌, length};
 ghost use Rattle.sdv_driver.specs.Driver.{IsDriver};
-ghost use Rattle.sdv_driver.specs.Views.{parsed_of};
+ghost use Rattle.sdv_driver.specs.Lines.{begun_count, driver_lines};
+ghost use Rattle.sdv_driver.specs.Views.{entries_of, parsed_of};
 
 use crate::tree::Entry;
 use sdv_graph::Names;
@@ -17,6 +19,8 @@ pub struct Driver<'a> {
     /// The line of each `if` before an entry's statements and of each statement's first token, in the order of these
     /// tokens.
     pub(crate) lines: Vec<u32>,
+    ghost lines_same: { lines.items ≡ driver_lines (parsed_of text.now names entries.items) },
+    ghost located: { length lines.items ≡ begun_count (entries_of entries.items) },
     pub ghost is_driver: { ∥ IsDriver (parsed_of text.now names entries.items) ∥₁ },
 }
 

@@ -40,6 +40,7 @@ pub fn entry<'a>(
         (read_entry (names_of names.now) (texts earlier.now) (progress_of from.old)) }
 {
     let head = entry_head(alloc, names, earlier, &mut from.at)?;
+    let begun = from.begun;
     let body = body(alloc, &head.names, from)?;
     let Head {
         name,
@@ -55,6 +56,7 @@ pub fn entry<'a>(
         partition,
         within,
         body,
+        statements: from.begun - begun,
     })
 }
 

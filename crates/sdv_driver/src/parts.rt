@@ -1,6 +1,6 @@
 //! The kind of card that a driver is for, and its entries.
 
-ghost use Rattle.std.specs.Prelude.{◌≡◌};
+ghost use Rattle.std.specs.Prelude.{◌≡◌, length};
 ghost use Rattle.sdv_driver.specs.Driver.{IsDriver};
 ghost use Rattle.sdv_driver.specs.Shown.{shown};
 ghost use Rattle.sdv_driver.specs.Views.{entries_of};
@@ -15,6 +15,13 @@ impl<'a> Driver<'a> {
         ensures { result ≡ (shown self.now).tree.names.kind }
     {
         self.names.kind
+    }
+
+    /// How many number variables the driver declares.
+    pub fn numbers(&self) -> usize
+        ensures { result ≡ length (shown self.now).tree.names.numbers }
+    {
+        self.names.numbers.len()
     }
 
     /// The entries of the driver, in their order.

@@ -3,9 +3,14 @@
 ghost use Rattle.std.specs.Prelude.{◌≡◌, ◌≢◌, ◌≤◌, length, IfOk, IfErr, Some, is_ok};
 ghost use Rattle.sdv_script.specs.Place.{tokens_at, names_of, texts};
 ghost use Rattle.sdv_script.specs.Reading.{Gives};
+ghost use Rattle.sdv_script.specs.FoundLines.{found_lines};
+ghost use Rattle.sdv_script.specs.Lines.{token_lines};
 ghost use Rattle.sdv_script.specs.Rules.{max_bytes};
 ghost use Rattle.sdv_script.specs.Tokens.{tokens};
+ghost use Rattle.sdv_script.specs.declared.lines.Before.TheVariants.{Other};
 ghost use Rattle.sdv_driver.specs.Driver.{Parsed, IsDriver};
+ghost use Rattle.sdv_driver.specs.Fits.{EachFits};
+ghost use Rattle.sdv_driver.specs.Grammar.{driver_written};
 ghost use Rattle.sdv_driver.specs.Reading.{read_driver, read_all_entries, ends};
 ghost use Rattle.sdv_driver.specs.Rules.{entries_fit};
 ghost use Rattle.sdv_driver.specs.Shown.{shown};
@@ -61,6 +66,13 @@ pub fn parse_driver(alloc: Global, text: &str) -> Result<Driver<'_>, ScriptFault
     }
 }
 
+/// The text of a driver has exactly the tokens that its tree is written as, and the names and statements of each entry
+/// fit the rules of scripts, with the input as a further number variable.
+pub fn written_so()
+    ensures written { (d : Parsed) → IsDriver d → tokens d.text ≡ driver_written d.tree }
+    ensures fits { (d : Parsed) → IsDriver d → EachFits d.tree.names d.tree.entries }
+{}
+
 /// A text has one syntax tree at most.
 pub fn one_driver()
     ensures { (d e : Parsed) → IsDriver d → IsDriver e → d.text ≡ e.text → d.tree ≡ e.tree }
@@ -69,7 +81,9 @@ pub fn one_driver()
 #[tactic(auto, unfolding(crate::specs::Reading::read_driver))]
 fn whole(alloc: Global, text: &str) -> Result<(Names<'_>, Vec<Entry<'_>>, Vec<u32>), Stop>
     requires { length text.now ≤ max_bytes }
-    ensures { Gives (λ x. tree_of x.0 x.1.items) result (read_driver (tokens text.entry.now)) }
+    ensures read { Gives (λ x. tree_of x.0 x.1.items) result (read_driver (tokens text.entry.now)) }
+    ensures lines { IfOk result (λ x. x.2.items
+        ≡ found_lines Other (tokens text.entry.now) (token_lines 1 text.entry.now)) }
 {
     let mut at = Cursor::new(text);
     wanted_word(&mut at, DRIVER)?;
@@ -122,7 +136,7 @@ fn obey(
     };
     let begun = begun.saturating_add(usize::from(entry.within.is_some()));
     match entry_obeys(is_first, entry) {
-        Ok(count) => obey(false, others, begun.saturating_add(count), lines),
+        Ok(()) => obey(false, others, begun.saturating_add(entry.statements), lines),
         Err(wrong) => Err(fault(wrong, begun, lines)),
     }
 }

@@ -42,8 +42,8 @@ pub struct Wrong {
     pub kind: FaultKind,
 }
 
-/// The entry's statements are such as it may have; how many there are. The first entry brings the card up.
-pub fn entry_obeys(is_first: bool, entry: &Entry<'_>) -> Result<usize, Wrong>
+/// The entry's statements are such as it may have. The first entry brings the card up.
+pub fn entry_obeys(is_first: bool, entry: &Entry<'_>) -> Result<(), Wrong>
     ensures { is_ok result ≡ entry_fits is_first (entry_of entry.now) }
 {
     if is_first && !begins_anew(entry) {
@@ -56,9 +56,9 @@ pub fn entry_obeys(is_first: bool, entry: &Entry<'_>) -> Result<usize, Wrong>
         return moves_fit(entry, Moves::Nothing);
     };
     match moves_fit(entry, Moves::FromCard(blocks)) {
-        Ok(count) => Ok(count),
+        Ok(()) => Ok(()),
         Err(first) => match moves_fit(entry, Moves::ToCard(blocks)) {
-            Ok(count) => Ok(count),
+            Ok(()) => Ok(()),
             Err(other) if first.statement < other.statement => Err(other),
             Err(_) => Err(first),
         },
@@ -66,7 +66,7 @@ pub fn entry_obeys(is_first: bool, entry: &Entry<'_>) -> Result<usize, Wrong>
 }
 
 // The entry's statements move these blocks and no other ones.
-fn moves_fit(entry: &Entry<'_>, moves: Moves) -> Result<usize, Wrong>
+fn moves_fit(entry: &Entry<'_>, moves: Moves) -> Result<(), Wrong>
     ensures { is_ok result ≡ moves_fit (entry_of entry.now) moves }
 {
     let rule = Rule {
@@ -74,7 +74,10 @@ fn moves_fit(entry: &Entry<'_>, moves: Moves) -> Result<usize, Wrong>
         input: entry.input.map(|input| input.place),
         moves,
     };
-    block_obeys(&rule, &entry.body, 0)
+    match block_obeys(&rule, &entry.body, 0) {
+        Ok(_) => Ok(()),
+        Err(wrong) => Err(wrong),
+    }
 }
 
 // The entry has no input and no partition, and begins with `send 0 { else { } }`.

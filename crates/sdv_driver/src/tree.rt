@@ -1,5 +1,9 @@
 //! The syntax tree of drivers.
 
+ghost use Rattle.std.specs.Prelude.{◌≡◌};
+ghost use Rattle.sdv_graph.specs.Counts.{statements_count};
+ghost use Rattle.sdv_graph.specs.Tree.{statements_of};
+
 use sdv_card::Partition;
 use sdv_graph::{Block, Names};
 
@@ -37,6 +41,9 @@ pub struct Entry<'a> {
     pub within: Option<Within>,
     /// Its statements.
     pub body: Block<'a>,
+    /// How many statements it has, those in blocks included.
+    pub statements: usize,
+    pub ghost counted: { statements ≡ statements_count (statements_of body) },
 }
 
 impl Drop for Entry<'_> {
@@ -49,6 +56,7 @@ impl Drop for Entry<'_> {
             partition: _,
             within: _,
             body: _body,
+            statements: _,
         } = self;
     }
 }
