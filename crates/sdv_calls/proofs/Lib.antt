@@ -1,0 +1,4 @@
+pub mod ClauseLaws
+pub mod DriverLaws
+pub mod PartLaws
+pub mod TextLaws

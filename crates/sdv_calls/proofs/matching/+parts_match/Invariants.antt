@@ -1,0 +1,5 @@
+use Rattle.std.proofs.Common.{length}
+use Rattle.sdv_calls.proofs.matching.+parts_match.Given as goal
+
+abbrev pub decreases-parts_match : goal.decreases-parts_match
+decreases-parts_match l = length l.graphs.now
