@@ -3,7 +3,7 @@ use Rattle.std.proofs.Common.{◌≡◌, ℕ, List, Option, Some, None, refl, sy
 use Rattle.std.specs.Prelude.{option_map}
 use Rattle.sdv_registers.specs.declared.kind.Kind.{Kind}
 use Rattle.sdv_card.specs.Host.{Host}
-use Rattle.sdv_card.specs.ScriptEvent.{ScriptEvent, ReceiveBlocks, ReceiveRegister, GiveBlocks}
+use Rattle.sdv_card.specs.ScriptEvent.{ScriptEvent}
 use Rattle.sdv_graph.specs.declared.tree.Phase.{Phase}
 use Rattle.sdv_graph.specs.declared.tree.Phase.TheVariants as kinds
 use Rattle.sdv_graph.specs.declared.tree.ScriptCommand.{ScriptCommand}

@@ -10,18 +10,17 @@ use Rattle.sdv_card.specs.declared.state.Width.{Width}
 use Rattle.sdv_card.specs.Card.{Card}
 use Rattle.sdv_card.specs.Modes.{same_width}
 use Rattle.sdv_card.specs.Port.{KeepsTables, call_of}
-use Rattle.sdv_card.specs.ScriptEvent.{ScriptEvent, SendCommand, ReceiveBlocks, ReceiveRegister, GiveBlocks, AwaitReady, Return, Answered, BlocksIn}
+use Rattle.sdv_card.specs.ScriptEvent.{SendCommand, ReceiveBlocks, ReceiveRegister, GiveBlocks, AwaitReady, Answered, BlocksIn}
 use Rattle.sdv_graph.specs.Graph.{Graph, begin}
 use Rattle.sdv_graph.specs.GraphOf.{IsSound}
 use Rattle.sdv_graph.specs.Path.{Point, Stand, Move, Goes, Does, Halts, Path, action_move, move, move_from}
-use Rattle.sdv_graph.specs.Walk.{Pair, Open, Deed, exactly, giving, given_by}
+use Rattle.sdv_graph.specs.Walk.{Pair, Open, exactly, giving, given_by}
 use Rattle.sdv_graph.proofs.Paths.{roll}
 use Rattle.sdv_run.specs.declared.fault.RunFault.{RunFault}
 use Rattle.sdv_run.specs.declared.fault.RunFault.TheVariants.{Reply, Input, Output, Trace, Memory}
 use Rattle.sdv_trace.specs.declared.end.End.{End}
 use Rattle.sdv_trace.specs.Trace.{end_line, line_of, lines}
 use Rattle.sdv_run.specs.Announced.{AnnounceAtMost}
-use Rattle.sdv_run.specs.OnCard.{ShowsStart}
 use Rattle.sdv_run.specs.Ran.{Happened}
 use Rattle.sdv_run.specs.Run.{Steps, ending_of}
 use Rattle.sdv_run.specs.Step.{World, Leads}
@@ -32,10 +31,10 @@ use Rattle.sdv_run.proofs.Runs.{is_walk}
 use Rattle.sdv_refute.specs.declared.wrong.Watched.{Watched}
 use Rattle.sdv_refute.specs.declared.wrong.Watched.TheVariants as comes
 use Rattle.sdv_refute.specs.declared.wrong.Wrong.{Wrong}
-use Rattle.sdv_refute.specs.Told.{lines_line, change_line, change_told, Moves, IsText, IsTold, Told, ChangeBrokeOff, WatchesAs}
+use Rattle.sdv_refute.specs.Told.{lines_line, change_told, Moves, IsTold, WatchesAs}
 use Rattle.sdv_refute.specs.Watched.{IsAllowedAt, IsWrongHere, StopsWith, Watches}
 use Rattle.sdv_refute.specs.WrongLine.{wrong_line}
-use Rattle.sdv_refute.proofs.WatchedRun.{Watching, begins, goes, ends, stops, cut_at_end, cuts, events_of, happened_of, written_of}
+use Rattle.sdv_refute.proofs.WatchedRun.{Watching, begins, goes, ends, stops, cut_at_end, cuts, events_of, written_of}
 use Rattle.sdv_refute.proofs.WatchedRun.{no_memory as nothing_ran}
 
 -- TEXTS
