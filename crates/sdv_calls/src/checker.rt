@@ -1,7 +1,6 @@
 //! The checker of drivers.
 
 ghost use Rattle.std.specs.Prelude.{◌≡◌, ◌≤◌, ◌<◌, ◌+◌, ◌^◌, true, MatchOption, length};
-ghost use Rattle.sdv_check.specs.Faults.{fault_of};
 ghost use Rattle.sdv_driver.specs.Lines.{AreGraphs, driver_lines};
 ghost use Rattle.sdv_driver.specs.Shown.{shown};
 ghost use Rattle.sdv_facts.specs.Closed.{PointsMatch};
@@ -15,7 +14,7 @@ use crate::points::fault_here;
 use crate::said::Said;
 use crate::whole::said_of;
 use sdv_card::{CardTable, Kind};
-use sdv_check::{CheckFault, Source};
+use sdv_check::{CheckFault, Source, fault_of};
 use sdv_driver::Driver;
 use sdv_emmc::EmmcTable;
 use sdv_facts::{Certificate, Clause};
@@ -71,20 +70,6 @@ fn first_fault<T: CardTable>(
     match graph_fault::<T>(graph, here) {
         Some((number, clause)) => Some((from + number, clause)),
         None => first_fault::<T>(graphs, behind, from + graph.len()),
-    }
-}
-
-// The fault of a clause that fails at a point.
-fn fault_of(clause: Clause, number: usize) -> CheckFault
-    ensures { result ≡ fault_of clause number }
-{
-    match clause {
-        Clause::Illegal => CheckFault::Illegal(number),
-        Clause::Address => CheckFault::Address(number),
-        Clause::Shape => CheckFault::Shape(number),
-        Clause::Number => CheckFault::Number(number),
-        Clause::Bound => CheckFault::Bound(number),
-        Clause::EndState => CheckFault::EndState(number),
     }
 }
 

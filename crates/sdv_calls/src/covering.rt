@@ -3,7 +3,7 @@
 ghost use Rattle.std.specs.Prelude.{◌≡◌, ◌≤◌, ◌↔◌, IsTrue, length};
 ghost use Rattle.sdv_card.specs.Lists.{May};
 ghost use Rattle.sdv_driver.specs.Views.{entry_of, entries_of};
-ghost use Rattle.sdv_facts.specs.Closed.{PointsMatch, StartsAt, StartCovers};
+ghost use Rattle.sdv_facts.specs.Closed.{PointsMatch, StartCovers};
 ghost use Rattle.sdv_facts.specs.Limits.{NumbersInLimits};
 ghost use Rattle.sdv_facts.specs.Shared.{point_in, IsNamed};
 ghost use Rattle.sdv_calls.specs.Between.{with_input};
@@ -12,26 +12,13 @@ ghost use Rattle.sdv_calls.specs.Shown.{points_said, rest_said};
 
 use crate::between::numbers_called;
 use crate::said::Said;
-use sdv_card::{START_SHAPES, Shape};
+use sdv_card::Shape;
+use sdv_check::starts_at;
 use sdv_driver::Entry;
-use sdv_facts::{Numbers, PointFacts, SetTable, covers, holds_shape};
+use sdv_facts::{Numbers, PointFacts, covers, holds_shape};
 use sdv_graph::Graph;
 
-// A point says no more than what holds before the first command of a card.
-fn starts_at(graph: &Graph<'_>, table: &SetTable, facts: &PointFacts) -> bool
-    requires same { length facts.now.facts.numbers.vars.items ≡ graph.now.numbers }
-    requires named { IsNamed table.now facts.now }
-    ensures { IsTrue result ↔ StartsAt graph.now (point_in table.now facts.now) }
-{
-    let numbers = facts.facts.numbers();
-    let [byte, byte_512, block] = START_SHAPES;
-    holds_shape(table, &facts.facts, byte)
-        && holds_shape(table, &facts.facts, byte_512)
-        && holds_shape(table, &facts.facts, block)
-        && covers(numbers, &Numbers::at_start(numbers.vars.len()))
-}
-
-// The first point of an entry that is called before the first command of a card does.
+// The first point of an entry that is called before the first command of a card says no more than holds there.
 fn start_covers(graph: &Graph<'_>, said: Said<'_>) -> bool
     requires { PointsMatch graph.now (points_said said) }
     ensures { IsTrue result ↔ StartCovers graph.now (points_said said.entry) }

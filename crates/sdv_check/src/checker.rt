@@ -102,7 +102,7 @@ fn points_match(graph: &Graph<'_>, certificate: &Certificate) -> bool
 }
 
 /// A point says no more than what holds at the start.
-fn starts_at(graph: &Graph<'_>, table: &SetTable, facts: &PointFacts) -> bool
+pub fn starts_at(graph: &Graph<'_>, table: &SetTable, facts: &PointFacts) -> bool
     requires same { length facts.now.facts.numbers.vars.items ≡ graph.now.numbers }
     requires named { IsNamed table.now facts.now }
     ensures { IsTrue result ↔ StartsAt graph.now (point_in table.now facts.now) }
@@ -128,7 +128,7 @@ fn start_covers(graph: &Graph<'_>, certificate: &Certificate) -> bool
 }
 
 /// The fault of a clause that fails at a point.
-fn fault_of(clause: Clause, number: usize) -> CheckFault
+pub fn fault_of(clause: Clause, number: usize) -> CheckFault
     ensures { result ≡ fault_of clause number }
 {
     match clause {

@@ -14,7 +14,7 @@
 //!   certificate closed for the script's graph, unless memory is refused. Otherwise it names the first that fails
 //!   (`specs/Verified.antt`). Only `verify` makes an `Accepted`. Its clause `headline` is the promise of the whole
 //!   program (`EachRun` of `specs/Headline.antt`; `docs/PROVED.md`).
-//! - `point_fault`, `first_cost`, `costs` and `lines` ask and read the same of points that belong to no script.
+//! - `point_fault`, `starts_at`, `fault_of`, `first_cost`, `costs` and `lines` ask and read the same of points that belong to no script.
 #![tactic(auto)]
 
 mod accepted;
@@ -29,7 +29,7 @@ mod turns;
 mod verifying;
 
 pub use accepted::Accepted;
-pub use checker::{check, first_cost};
+pub use checker::{check, fault_of, first_cost, starts_at};
 pub use clauses::point_fault;
 pub use fault::{CheckFault, VerifyFault};
 pub use source::Source;
